@@ -1,0 +1,6 @@
+pub mod TapeLemmas
+pub mod ToldLemmas
+pub mod SendLemmas
+pub mod PadLemmas
+pub mod SlotLemmas
+pub mod NamedLemmas
