@@ -1,0 +1,13 @@
+pub mod Rows
+pub mod Cases
+pub mod Offences
+pub mod Found
+pub mod Least
+pub mod Told
+pub mod Verdicts
+pub mod Cuts
+pub mod Rooms
+pub mod Written
+pub mod Fits
+pub mod Canon
+pub mod Means

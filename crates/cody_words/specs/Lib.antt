@@ -1,0 +1,11 @@
+pub mod Octets
+pub mod Spelling
+pub mod Lines
+pub mod Canonical
+pub mod Scan
+pub mod Buffers
+pub mod Pieces
+pub mod Room
+pub mod Meanings
+pub mod Reading
+pub mod Reasons
