@@ -1,0 +1,5 @@
+pub mod Cuts
+pub mod Grows
+pub mod Stands
+pub mod BlockLaws
+pub mod LimitLaws

@@ -1,0 +1,81 @@
+-- How the intake works on what it keeps: working definitions of private functions, and no part of what it means.
+use Rattle.std.specs.Prelude.{◌≡◌, ℕ, ◌+◌, Bool, true, false, not, ◌==◌, ◌&&◌, nat_lt, if◌then◌else◌, List, [], ◌∷◌}
+use Rattle.std.specs.Bool.{MatchBool}
+use Rattle.cody_words.specs.declared.reason.Reason.TheVariants.{LineTooLong}
+use Rattle.cody_words.specs.declared.reader.Reading.{Reading}
+use Rattle.cody_words.specs.declared.reader.Reading.TheVariants as reading
+use Rattle.cody_words.specs.Octets.{semicolon}
+use Rattle.cody_words.specs.Lines.{longest_line}
+use Rattle.cody_words.specs.Scan.{Scan, is_white, start, verdict, step as scan_step}
+use Rattle.cody_words.specs.Reading.{told, more_of}
+use Rattle.cody_batches.specs.declared.intake.Step.{Step}
+use Rattle.cody_batches.specs.declared.intake.Step.TheVariants as step
+use Rattle.cody_batches.specs.declared.intake.Tail.{Tail}
+use Rattle.cody_batches.specs.declared.intake.Tail.TheVariants as tail
+use Rattle.cody_batches.specs.Blocks.{most_lines}
+use Rattle.cody_batches.specs.Feeding.{Standing}
+
+-- the most octets of a line that are scanned while its last two wait
+abbrev pub most_scanned : ℕ
+most_scanned = 8190
+
+-- the octets of a tail
+abbrev pub tail_octets : Tail → List ℕ
+tail_octets tail.Nothing = []
+tail_octets (tail.One x) = x ∷ []
+tail_octets (tail.Two x y) = x ∷ y ∷ []
+
+-- with one octet more of the begun line, whose last octets are these
+abbrev pub kept_behind : Standing → List ℕ → ℕ → Standing
+kept_behind s [] octet = record s { scan = start; tail = octet ∷ [] }
+kept_behind s (x ∷ []) octet = record s { tail = x ∷ octet ∷ [] }
+kept_behind s (x ∷ y ∷ rest) octet = if nat_lt s.scan.at most_scanned then record s { scan = scan_step s.scan x; tail = y ∷ octet ∷ [] } else record s { too_long = true; tail = y ∷ octet ∷ [] }
+
+-- with one octet more of the begun line
+abbrev pub kept : Standing → ℕ → Standing
+kept s octet = kept_behind s s.tail octet
+
+-- the mark of these two octets
+abbrev pub ends_marked : ℕ → ℕ → Bool
+ends_marked before last = is_white before && last == semicolon
+
+-- the mark of a line that ends in these octets
+abbrev pub tail_marked : List ℕ → Bool
+tail_marked [] = false
+tail_marked (x ∷ []) = x == semicolon
+tail_marked (x ∷ y ∷ rest) = ends_marked x y
+
+-- what this scan says was read
+pub record ReadsScan (scan : Scan) (words : List (List ℕ)) (found : Reading) (more : Bool) : Type 0 where
+  pub meaning : told words found ≡ verdict scan
+  pub mark : more_of found ≡ more
+
+-- what was read of a line that isn't too long
+abbrev pub ReadsTail : Scan → List ℕ → List (List ℕ) → Reading → Type 0
+ReadsTail scan [] words found = found ≡ reading.Blank false
+ReadsTail scan (x ∷ []) words found = MatchBool (x == semicolon) (ReadsScan scan words found true) (ReadsScan (scan_step scan x) words found false)
+ReadsTail scan (x ∷ y ∷ rest) words found = MatchBool (ends_marked x y) (ReadsScan scan words found true) (ReadsScan (scan_step (scan_step scan x) y) words found false)
+
+-- what was read of the line that was kept
+abbrev pub ReadsKept : Standing → List (List ℕ) → Reading → Type 0
+ReadsKept s words found = MatchBool s.too_long (found ≡ reading.Malformed longest_line LineTooLong (tail_marked s.tail)) (ReadsTail s.scan s.tail words found)
+
+-- a line is over
+abbrev pub line_ended : Standing → Scan → Standing
+line_ended s scan = record s { scan = scan; tail = []; too_long = false }
+
+-- one line more of the block, which ends here or not
+abbrev pub counted_line : Standing → Bool → Standing
+counted_line s more = if s.lines == most_lines then record s { over = true } else record s { lines = if more then s.lines + 1 else 0 }
+
+-- a line that was read is counted, unless it is blank
+abbrev pub counted : Standing → Reading → Standing
+counted s (reading.Blank more) = s
+counted s (reading.Words more) = counted_line s more
+counted s (reading.Malformed at reason more) = counted_line s more
+
+-- what the end of such a line brings
+abbrev pub step_of : Standing → Reading → Step
+step_of s (reading.Blank more) = step.More
+step_of s (reading.Words more) = if s.lines == most_lines then step.BatchTooLong else step.Message (not more)
+step_of s (reading.Malformed at reason more) = if s.lines == most_lines then step.BatchTooLong else step.Malformed at reason (not more)
