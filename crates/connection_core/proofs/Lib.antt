@@ -1,0 +1,4 @@
+pub mod LineLemmas
+pub mod TakeLemmas
+pub mod ReplyLemmas
+pub mod AnswerLemmas

@@ -1,0 +1,185 @@
+-- What a session takes of a piece.
+use Rattle.std.proofs.Common.{◌≡◌, ◌≢◌, ℕ, ◌+◌, ◌-◌, ◌<◌, ◌≤◌, true, false, List, [], ◌∷◌, ◌++◌, length, map, take, drop, refl, sym, ap, subst, ◌∙◌, append_assoc, arith, All, Some}
+use Rattle.std.proofs.lemmas.List.{length-append, length_push, append-nil, length-take, take-append-drop}
+use Rattle.std.proofs.Math.Seq.{take-add}
+use Rattle.cody_words.specs.Octets.{newline}
+use Rattle.cody_batches.specs.Blocks.{blocks, has_long_block, most_octets, taken}
+use Rattle.cody_batches.specs.Feeding.{Standing as IntakeStanding, StandsAfter as IntakeStandsAfter}
+use Rattle.cody_batches.proofs.BlockLaws.{run_within}
+use Rattle.cody_batches.proofs.Cuts.{blocks_grow}
+use Rattle.cody_batches.proofs.LimitLaws.{taken_at_octets_limit, taken_at_lines_limit}
+use Rattle.connection_core.specs.declared.session.Stage.{Stage}
+use Rattle.connection_core.specs.declared.session.Stage.TheVariants as stage
+use Rattle.connection_core.specs.Asking.{asked_by}
+use Rattle.connection_core.specs.Answers.{answers, connected_after}
+use Rattle.connection_core.specs.declared.conn_end.ConnEnd.{ConnEnd}
+use Rattle.connection_core.specs.Standing.{Standing, StandsAfter, IsIdle, Keeps, end_in, ended}
+use Rattle.connection_core.specs.declared.conn_end.ConnEnd.TheVariants.{Closed, Truncated, ReadFault, WriteFault, TooLong, BatchTooLong}
+use Rattle.connection_core.specs.declared.conn_end.Took.{Took}
+use Rattle.connection_core.specs.declared.conn_end.Took.TheVariants as took
+use Rattle.connection_core.specs.Taking.{Takes, TakesAll, TakesBlock, PassesLines, PassesOctets}
+use Rattle.connection_core.specs.Working.{GoesOn, TakesLines}
+use Rattle.connection_core.proofs.LineLemmas.{reads_of, moved}
+
+-- the session behind octets within a line
+abbrev pub with_run : Standing → IntakeStanding → List ℕ → Stage → Standing
+with_run s intake run at = record { intake = intake; taken = s.taken + length run; connected = s.connected; asked = s.asked; stage = at }
+
+pub run_goes_on : (s : Standing) (intake : IntakeStanding) (run fed answered : List ℕ) → s.stage ≡ stage.Reading → All (λ octet. octet ≢ newline) run
+    → ((fed : List ℕ) → IntakeStandsAfter s.intake fed → IntakeStandsAfter intake (fed ++ run)) → StandsAfter s fed answered → GoesOn fed answered run (with_run s intake run s.stage)
+run_goes_on s intake run fed answered reading clean ran h =
+    let law = run_within fed run clean in
+    let kept = reads_of s fed answered reading h in
+    record {
+      stands = record {
+        intake = ran fed h.intake;
+        fits = law.3 ∙ h.fits;
+        count = omega (arith, h.count, length-append fed run);
+        keeps = subst (λ t. Keeps t (with_run s intake run s.stage) (fed ++ run) answered) (sym reading) (record {
+          before = record {
+            answers_are = kept.before.answers_are ∙ ap answers (sym law.0);
+            connected_is = kept.before.connected_is ∙ ap (connected_after false) (sym law.0);
+          };
+          kept = kept.kept ∙ ap (map asked_by) (sym law.1);
+        });
+      };
+      none_ended = law.0;
+    }
+
+-- octets go on behind others
+pub then_goes_on : (s new : Standing) (fed answered first second : List ℕ) → GoesOn fed answered first s
+    → (StandsAfter s (fed ++ first) answered → GoesOn (fed ++ first) answered second new) → GoesOn fed answered (first ++ second) new
+then_goes_on s new fed answered first second h go =
+    let after = go h.stands in
+    record {
+      stands = moved (append_assoc fed first second) after.stands;
+      none_ended = ap blocks (sym (append_assoc fed first second)) ∙ after.none_ended ∙ h.none_ended;
+    }
+
+-- ---- a line within a piece
+
+nothing_more : {X : Type 0} (xs ys zs : List X) → (xs ++ ys) ++ zs ≡ xs → ys ≡ []
+nothing_more xs [] zs e = refl
+nothing_more xs (y ∷ ys) zs e = absurd (omega (arith, ap length e, length-append (xs ++ y ∷ ys) zs, length-append xs (y ∷ ys)))
+
+-- where no block ended in octets, none ended in their front
+pub front_goes_on : (fed front back : List ℕ) → blocks (fed ++ (front ++ back)) ≡ blocks fed → blocks (fed ++ front) ≡ blocks fed
+front_goes_on fed front back same =
+    let first = blocks_grow fed front in
+    let second = blocks_grow (fed ++ front) back in
+    let whole : (blocks fed ++ first.0) ++ second.0 ≡ blocks fed =
+    ap (λ bs. bs ++ second.0) (sym first.1) ∙ sym second.1 ∙ ap blocks (append_assoc fed front back) ∙ same in
+    first.1 ∙ ap (λ bs. blocks fed ++ bs) (nothing_more (blocks fed) first.0 second.0 whole) ∙ append-nil (blocks fed)
+
+-- a line stands in a piece behind its first octets
+pub record LineAt (piece : List ℕ) (used : ℕ) (run : List ℕ) : Type 0 where
+  pub tail : List ℕ
+  pub within : used + (length run + 1) ≤ length piece
+  pub next : take (used + (length run + 1)) piece ≡ take used piece ++ (run ++ newline ∷ [])
+  pub text : take (used + length run) piece ≡ take used piece ++ run
+  pub whole : piece ≡ take used piece ++ (run ++ newline ∷ tail)
+
+take_run : (run tail : List ℕ) → take (length run) (run ++ newline ∷ tail) ≡ run
+take_run [] tail = refl
+take_run (x ∷ run) tail = ap (λ xs. x ∷ xs) (take_run run tail)
+
+take_ended : (run tail : List ℕ) → take (length run + 1) (run ++ newline ∷ tail) ≡ run ++ newline ∷ []
+take_ended run tail = ap (λ n. take n (run ++ newline ∷ tail)) (sym (length_push run newline)) ∙ ap (take (length (run ++ newline ∷ []))) (sym (append_assoc run (newline ∷ []) tail)) ∙ take_front (run ++ newline ∷ []) tail
+  where
+    take_front : (xs ys : List ℕ) → take (length xs) (xs ++ ys) ≡ xs
+    take_front [] ys = refl
+    take_front (x ∷ xs) ys = ap (λ zs. x ∷ zs) (take_front xs ys)
+
+pub line_at : (piece rest run : List ℕ) (used : ℕ) (tail : List ℕ) → rest ≡ drop used piece → used ≤ length piece → rest ≡ run ++ newline ∷ tail → LineAt piece used run
+line_at piece rest run used tail back le text =
+    let behind : drop used piece ≡ run ++ newline ∷ tail = sym back ∙ text in
+    let whole : piece ≡ take used piece ++ (run ++ newline ∷ tail) = sym (take-append-drop used piece) ∙ ap (λ xs. take used piece ++ xs) behind in
+    record {
+      tail = tail;
+      within = omega (arith, ap length whole, length-append (take used piece) (run ++ newline ∷ tail), length-append run (newline ∷ tail), length-take used piece);
+      next = take-add used (length run + 1) piece ∙ ap (λ xs. take used piece ++ take (length run + 1) xs) behind ∙ ap (λ xs. take used piece ++ xs) (take_ended run tail);
+      text = take-add used (length run) piece ∙ ap (λ xs. take used piece ++ take (length run) xs) behind ∙ ap (λ xs. take used piece ++ xs) (take_run run tail);
+      whole = whole;
+    }
+
+module _ (s new : Standing) (fed answered piece run : List ℕ) (used : ℕ) (at : LineAt piece used run) (clean : All (λ octet. octet ≢ newline) run)
+    (before : GoesOn fed answered (take used piece) s) where
+  -- the octets up to the line
+  text_goes_on : blocks (fed ++ (take used piece ++ run)) ≡ blocks fed
+  text_goes_on = ap blocks (sym (append_assoc fed (take used piece) run)) ∙ (run_within (fed ++ take used piece) run clean).0 ∙ before.none_ended
+
+  pub line_goes_on : StandsAfter new ((fed ++ take used piece) ++ (run ++ newline ∷ [])) answered → blocks ((fed ++ take used piece) ++ (run ++ newline ∷ [])) ≡ blocks (fed ++ take used piece)
+      → GoesOn fed answered (take (used + (length run + 1)) piece) new
+  line_goes_on stands same =
+      subst (λ o. GoesOn fed answered o new) (sym at.next) (then_goes_on s new fed answered (take used piece) (run ++ newline ∷ []) before (λ _. record { stands = stands; none_ended = same }))
+
+  pub line_ends_block : StandsAfter new ((fed ++ take used piece) ++ (run ++ newline ∷ [])) answered
+      → (block : List (List ℕ)) → blocks ((fed ++ take used piece) ++ (run ++ newline ∷ [])) ≡ blocks (fed ++ take used piece) ++ block ∷ []
+      → TakesBlock fed answered piece (used + (length run + 1)) new
+  line_ends_block stands block one =
+      let there : (fed ++ take used piece) ++ (run ++ newline ∷ []) ≡ fed ++ take (used + (length run + 1)) piece =
+      append_assoc fed (take used piece) (run ++ newline ∷ []) ∙ ap (λ xs. fed ++ xs) (sym at.next) in
+      record {
+        some = omega arith;
+        within = at.within;
+        stands = moved there stands;
+        one_ended = (block, ap blocks (sym there) ∙ one ∙ ap (λ (bs : List (List (List ℕ))). bs ++ block ∷ []) before.none_ended);
+        none_before = λ n lt. none n lt;
+      }
+    where
+      none : (n : ℕ) → n < used + (length run + 1) → blocks (fed ++ take n piece) ≡ blocks fed
+      none n lt =
+          let d = (used + length run) - n in
+          let split : take (used + length run) piece ≡ take n piece ++ take d (drop n piece) = ap (λ m. take m piece) (omega arith) ∙ take-add n d piece in
+          front_goes_on fed (take n piece) (take d (drop n piece)) (ap (λ xs. blocks (fed ++ xs)) (sym split ∙ at.text) ∙ text_goes_on)
+
+  pub line_passes : (more : List ℕ) → has_long_block ((fed ++ take used piece) ++ (run ++ newline ∷ [])) ≡ true → length ((fed ++ take used piece) ++ run) < most_octets
+      → PassesLines fed (piece ++ more)
+  line_passes more long lt =
+      let octets = (fed ++ take used piece) ++ run in
+      let within = run_within (fed ++ take used piece) run clean in
+      let law = taken_at_lines_limit octets (at.tail ++ more) lt (within.3 ∙ before.stands.fits) (ap has_long_block (append_assoc (fed ++ take used piece) run (newline ∷ [])) ∙ long) in
+      let there : octets ++ newline ∷ (at.tail ++ more) ≡ fed ++ (piece ++ more) =
+      regroup fed (take used piece) run at.tail more ∙ ap (λ xs. fed ++ (xs ++ more)) (sym at.whole) in
+      record {
+        taken_are = ap taken (sym there) ∙ law.0 ∙ within.0 ∙ before.none_ended;
+        long = ap (λ xs. has_long_block (take most_octets xs)) (sym there) ∙ law.1;
+      }
+    where
+      regroup : (a b c d e : List ℕ) → ((a ++ b) ++ c) ++ newline ∷ (d ++ e) ≡ a ++ ((b ++ (c ++ newline ∷ d)) ++ e)
+      regroup a b c d e = simp append_assoc
+
+-- ---- the whole piece
+
+-- a piece that passes no limit of octets
+pub takes_lines : (fed answered piece : List ℕ) (answer : Took) (new : Standing) → TakesLines fed answered piece answer new → Takes fed answered piece answer new
+takes_lines fed answered piece took.All new h = h
+takes_lines fed answered piece (took.Block used) new h = h
+takes_lines fed answered piece (took.Ended TooLong) new h = absurd h
+takes_lines fed answered piece (took.Ended BatchTooLong) new h = subst (PassesLines fed) (append-nil piece) (h [])
+takes_lines fed answered piece (took.Ended Closed) new h = absurd h
+takes_lines fed answered piece (took.Ended (Truncated lines)) new h = absurd h
+takes_lines fed answered piece (took.Ended ReadFault) new h = absurd h
+takes_lines fed answered piece (took.Ended WriteFault) new h = absurd h
+
+-- as many octets as may come, and one more
+pub passes_octets : (s new : Standing) (fed answered piece front back : List ℕ) → piece ≡ front ++ back → StandsAfter s fed answered
+    → s.taken + length front ≡ most_octets → length front < length piece → TakesAll fed answered front new → PassesOctets fed piece
+passes_octets s new fed answered piece front back e h full lt all =
+    let there : (fed ++ front) ++ back ≡ fed ++ piece = append_assoc fed front back ∙ ap (λ xs. fed ++ xs) (sym e) in
+    let law = taken_at_octets_limit (fed ++ front) back (length-append fed front ∙ omega (arith, h.count, full)) all.stands.fits in
+    record {
+      taken_are = ap taken (sym there) ∙ law.0 ∙ all.none_ended;
+      many = omega (arith, length-append fed piece, h.count, full);
+      fits = ap (λ xs. has_long_block (take most_octets xs)) (sym there) ∙ law.1;
+    }
+
+-- a session that has ended has this stage
+pub ended_stage : (at : Stage) (how : ConnEnd) → end_in at ≡ Some how → at ≡ stage.Ended how
+ended_stage stage.Reading how e = cc
+ended_stage stage.Waiting how e = cc
+ended_stage (stage.Ended other) how e = cc
+
+-- a session that has ended has no block that waits
+pub ended_idle : (s : Standing) (how : ConnEnd) → ended s ≡ Some how → IsIdle s
+ended_idle s how e waits = cc (ended_stage s.stage how e, waits)

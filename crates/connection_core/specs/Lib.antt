@@ -1,0 +1,5 @@
+pub mod Asking
+pub mod Answers
+pub mod Standing
+pub mod Taking
+pub mod Working
