@@ -1,0 +1,18 @@
+use Rattle.std.proofs.Common.{◌≡◌, ◌+◌, ◌-◌, ◌≤◌, length, take, None}
+use Rattle.mm_outside.specs.Told.{Told}
+use Rattle.connection_core.specs.Standing.{octets_taken}
+use Rattle.modmap.specs.Ladder.{Goes, IsReady}
+use Rattle.modmap.proofs.pipe.serve_piece.Given as goal
+
+abbrev pub invariant-loop-used : goal.invariant-loop-used
+invariant-loop-used g l = record {
+  within : l.at ≤ length l.piece;
+  ready : IsReady l.session;
+  count : octets_taken l.session ≡ octets_taken l.initial.session + l.at;
+  goes : Told (Goes None (take l.at l.piece) l.initial.session l.session) (g.L.Link.octets l.initial.link) (g.L.Link.octets l.link);
+  read_faults : g.L.Link.read_faults l.link ≡ g.L.Link.read_faults l.initial.link;
+  write_faults : g.L.Link.write_faults l.link ≡ g.L.Link.write_faults l.initial.link;
+}
+
+abbrev pub decreases-loop-used : goal.decreases-loop-used
+decreases-loop-used g l = length l.piece - l.at

@@ -1,0 +1,5 @@
+pub mod Serving
+pub mod Ladder
+pub mod Endings
+pub mod Running
+pub mod Adapters

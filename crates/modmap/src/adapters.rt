@@ -1,0 +1,95 @@
+//! A link and a sink over any reader and writer of std, the standard streams among them. They tell no octets: what
+//! a stream really gives and takes is outside every clause.
+
+ghost use Rattle.std.specs.Prelude.{None};
+
+use mm_outside::{Failed, Link, Sink};
+use std::io::{Read, Write};
+
+/// A link over a reader and a writer. Each error of the reader, and each of the writer, raises its count of faults;
+/// a writer that takes no octets has failed.
+#[derive(Drop)]
+pub struct Pipe<R, W> {
+    reader: R,
+    writer: W,
+    read_faults: u64,
+    write_faults: u64,
+}
+
+impl<R: Read, W: Write> Pipe<R, W> {
+    ghost use Rattle.modmap.specs.Adapters.{IsOver};
+
+    /// A link that reads from `reader` and writes to `writer`.
+    pub fn new(reader: R, writer: W) -> Pipe<R, W>
+        ensures { IsOver reader writer result }
+    {
+        Pipe {
+            reader,
+            writer,
+            read_faults: 0,
+            write_faults: 0,
+        }
+    }
+}
+
+impl<R: Read, W: Write> Link for Pipe<R, W> {
+    ghost octets = { λ _. None };
+
+    ghost read_faults = { λ pipe. pipe.read_faults };
+
+    ghost write_faults = { λ pipe. pipe.write_faults };
+
+    fn read(&mut self, room: &mut [u8]) -> Result<usize, Failed> {
+        match self.reader.read(room) {
+            Ok(count) => Ok(count),
+            Err(_) => {
+                self.read_faults = self.read_faults.saturating_add(1);
+                Err(Failed)
+            }
+        }
+    }
+
+    fn write(&mut self, piece: &[u8]) -> Result<usize, Failed> {
+        match self.writer.write(piece) {
+            Ok(count) if count > 0 => Ok(count),
+            _ => {
+                self.write_faults = self.write_faults.saturating_add(1);
+                Err(Failed)
+            }
+        }
+    }
+}
+
+/// A sink over a writer. Each error of the writer raises the count of faults; a writer that takes no octets has failed.
+#[derive(Drop)]
+pub struct WriterSink<W> {
+    writer: W,
+    faults: u64,
+}
+
+impl<W: Write> WriterSink<W> {
+    ghost use Rattle.modmap.specs.Adapters.{WritesTo};
+
+    /// A sink that writes to `writer`.
+    pub fn new(writer: W) -> WriterSink<W>
+        ensures { WritesTo writer result }
+    {
+        WriterSink { writer, faults: 0 }
+    }
+}
+
+impl<W: Write> Sink for WriterSink<W> {
+    ghost written = { λ _. None };
+
+    ghost faults = { λ sink. sink.faults };
+
+    fn write(&mut self, piece: &[u8]) -> Result<usize, Failed> {
+        match self.writer.write(piece) {
+            Ok(count) if count > 0 => Ok(count),
+            _ => {
+                self.faults = self.faults.saturating_add(1);
+                Err(Failed)
+            }
+        }
+    }
+}
