@@ -1,0 +1,9 @@
+use Rattle.std.proofs.Common.{rules, ◌==◌}
+use borrow.Author.Tests.{tests}
+use Rattle.std.proofs.lemmas.Iterator.Search.{all_from_yields_List}
+use Rattle.std.proofs.lemmas.Iterator.Splits.{YieldsList-from_slice_split}
+use Rattle.header_units.specs.Names.{is_identifier}
+use Rattle.header_units.proofs.grammar.is_dotted.Goals as goal
+
+pub returns : goal.returns
+returns c = all_from_yields_List is_identifier _ _ c.all.result c.all.ensures.ran (YieldsList-from_slice_split _ (λ x. x == 46) c.args.name.now c.split.ensures.rest c.split.ensures.done c.split.ensures.closure (λ x r q k. search (rules, tests))) (λ x b q k. search (rules, tests))

@@ -1,0 +1,5 @@
+pub mod Octets
+pub mod Names
+pub mod Grammar
+pub mod CmiNames
+pub mod Readings
