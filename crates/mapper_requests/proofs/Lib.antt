@@ -1,0 +1,5 @@
+pub mod Rows
+pub mod Digits
+pub mod Lines
+pub mod Table
+pub mod Back

@@ -1,0 +1,5 @@
+pub mod Numbers
+pub mod Asked
+pub mod Requests
+pub mod Writing
+pub mod Working
