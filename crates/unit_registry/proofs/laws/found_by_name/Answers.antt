@@ -1,0 +1,14 @@
+use Rattle.std.proofs.Common.{[], Option, ap, ◌∙◌}
+use Rattle.std.specs.Option.{option_map_or}
+use Rattle.unit_registry.specs.declared.unit.Declared.{Declared}
+use Rattle.unit_registry.specs.Projects.{own_name}
+use Rattle.unit_registry.proofs.Found.{find_by-within, find_by_at, has_word-same}
+use Rattle.unit_registry.proofs.laws.found_by_name.Goals as goal
+
+pub returns-clause-unit : goal.returns-clause-unit
+returns-clause-unit c = λ project name unit e. find_by-within own_name project.units name unit e
+
+pub returns-clause-name : goal.returns-clause-name
+returns-clause-name c = λ project name unit e.
+    let found = find_by_at own_name project.units name unit e in
+    ap (λ (r : Option Declared). option_map_or (λ (d : Declared). d.name) r []) found.at ∙ has_word-same own_name name found.unit found.passes

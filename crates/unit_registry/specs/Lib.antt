@@ -1,0 +1,11 @@
+pub mod Reasons
+pub mod Kinds
+pub mod Projects
+pub mod Lines
+pub mod Drafts
+pub mod Grammar
+pub mod Readings
+pub mod Acts
+pub mod Numbers
+pub mod Kept
+pub mod Taken

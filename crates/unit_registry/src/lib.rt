@@ -1,0 +1,30 @@
+//! The project that a project file declares, and requests with their names replaced by the numbers of units.
+//!
+//! A project file is lines of words. The first is `modmap-project 1`, the second `repo PATH`. Then come the lines of
+//! the units, `module NAME IDENT`, `header NAME IDENT` or `plain IDENT`, of which those with a name may begin with
+//! the word `built`. The last is `end`. Units are numbered in the order of their lines, from 0. Blank lines are
+//! ignored, and no line has the mark that more follows. The file, its limits and its refusals are this project's own.
+//!
+//! The forms of lines stand in `specs/Lines.antt`, the faults in `specs/Drafts.antt`, what a text declares in
+//! `specs/Readings.antt`, and the act that a request is in `specs/Acts.antt`.
+#![tactic(auto)]
+
+mod act;
+mod draft;
+mod kind;
+mod laws;
+mod line;
+mod numbers;
+mod project;
+mod reader;
+mod reason;
+mod unit;
+
+pub use act::Act;
+pub use kind::Kind;
+pub use laws::{declared_units_differ, found_by_ident, found_by_name, one_reading, project_text};
+pub use project::{MOST_UNITS, Project};
+pub use reason::{ProjectError, ProjectReason};
+
+#[cfg(test)]
+mod tests;

@@ -1,0 +1,55 @@
+//! Words with their numbers, found by hashing.
+
+ghost use Rattle.std.specs.Prelude.{◌≡◌, [], None, OnOk, OnErr};
+ghost use Rattle.unit_registry.specs.Numbers.{number_in, with_number};
+
+use indexmap::IndexMap;
+use mm_outside::Memory;
+use std::alloc::Global;
+use std::marker::Model;
+
+/// Words with their numbers. Contracts see them as pairs in order.
+#[derive(Debug, Drop)]
+pub(crate) struct Numbers {
+    numbers: IndexMap<Vec<u8>, u32>,
+}
+
+impl Model for Numbers {
+    ghost use Rattle.std.specs.Prelude.{List, ℕ, map};
+
+    ghost Value = { List (List ℕ × ℕ) };
+
+    ghost view = { λ n. map (λ entry. (entry.0.items, entry.1)) n.numbers.entries };
+}
+
+impl Numbers {
+    /// No words. It takes no memory.
+    pub(crate) fn new(alloc: Global) -> Numbers
+        ensures { result ≡ [] }
+    {
+        Numbers {
+            numbers: IndexMap::new(alloc),
+        }
+    }
+
+    /// The number of the word, if it has one.
+    pub(crate) fn find(&self, word: &[u8]) -> Option<u32>
+        ensures { result ≡ number_in self.now word.now }
+    {
+        self.numbers.get(word).copied()
+    }
+
+    /// Adds a word that has no number yet. An empty word gets none.
+    pub(crate) fn add(&mut self, alloc: Global, word: &[u8], number: u32) -> Result<(), Memory>
+        requires { number_in self.old word.now ≡ None }
+        ensures ok { OnOk result (self.new ≡ with_number self.old word.now number) }
+        ensures err { OnErr result (self.new ≡ self.old) }
+    {
+        if word.is_empty() {
+            return Ok(());
+        }
+        let key = Vec::from_slice(alloc, word)?;
+        self.numbers.insert(key, number)?;
+        Ok(())
+    }
+}
