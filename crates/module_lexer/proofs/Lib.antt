@@ -1,0 +1,5 @@
+pub mod Runs
+pub mod Fronts
+pub mod Cuts
+pub mod Spans
+pub mod OneCut
