@@ -1,0 +1,16 @@
+pub mod Members
+pub mod Stay
+pub mod WhatIsSaid
+pub mod OneEntry
+pub mod Acyclic
+pub mod Stalls
+pub mod Agree
+pub mod Steps
+pub mod GoingOn
+pub mod Rows
+pub mod Legality
+pub mod Counting
+pub mod Passing
+pub mod LegalCounts
+pub mod Coming
+pub mod ReplyLaws
