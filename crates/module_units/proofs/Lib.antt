@@ -1,0 +1,12 @@
+pub mod ItemParts
+pub mod ItemRuns
+pub mod UnitParts
+pub mod Rounds
+pub mod Readings
+pub mod UnitFaults
+pub mod NameSets
+pub mod Sizes
+pub mod StepNames
+pub mod Taking
+pub mod Runs
+pub mod OneReading
