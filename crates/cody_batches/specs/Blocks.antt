@@ -8,9 +8,11 @@ use Rattle.cody_batches.specs.Cutting.{Cut, cut_behind}
 
 -- ---- lines
 
+-- the octet is NEWLINE, which ends a line
 abbrev pub is_newline : ℕ → Bool
-is_newline c = c == newline
+is_newline octet = octet == newline
 
+-- the octets, cut behind each NEWLINE
 abbrev pub by_newline : List ℕ → Cut ℕ
 by_newline octets = cut_behind is_newline octets
 
@@ -26,6 +28,7 @@ begun_line octets = (by_newline octets).rest
 abbrev pub ended : List ℕ → List ℕ
 ended line = line ++ newline ∷ []
 
+-- the meaning is that of a blank line: no words, and nothing at fault
 abbrev pub says_nothing : Meaning → Bool
 says_nothing Blank = true
 says_nothing (Words words) = false

@@ -38,9 +38,9 @@ Answers fed octet answer standing = MatchBool (has_long_block (fed ++ octet ∷ 
 -- the last octets of a line: two, or all of it
 abbrev pub IsTail : List ℕ → List ℕ → Type 0
 IsTail front [] = front ≡ []
-IsTail front (x ∷ []) = front ≡ []
-IsTail front (x ∷ y ∷ []) = Unit {0}
-IsTail front (x ∷ y ∷ z ∷ rest) = ⊥
+IsTail front (last ∷ []) = front ≡ []
+IsTail front (before ∷ last ∷ []) = Unit {0}
+IsTail front (first ∷ second ∷ third ∷ rest) = ⊥
 
 -- the begun line is scanned but for its last octets, or it is too long
 pub record KeepsLine (standing : Standing) (line : List ℕ) : Type 0 where

@@ -22,18 +22,20 @@ most_scanned = 8190
 -- the octets of a tail
 abbrev pub tail_octets : Tail → List ℕ
 tail_octets tail.Nothing = []
-tail_octets (tail.One x) = x ∷ []
-tail_octets (tail.Two x y) = x ∷ y ∷ []
+tail_octets (tail.One last) = last ∷ []
+tail_octets (tail.Two before last) = before ∷ last ∷ []
 
 -- with one octet more of the begun line, whose last octets are these
 abbrev pub kept_behind : Standing → List ℕ → ℕ → Standing
-kept_behind s [] octet = record s { scan = start; tail = octet ∷ [] }
-kept_behind s (x ∷ []) octet = record s { tail = x ∷ octet ∷ [] }
-kept_behind s (x ∷ y ∷ rest) octet = if nat_lt s.scan.at most_scanned then record s { scan = scan_step s.scan x; tail = y ∷ octet ∷ [] } else record s { too_long = true; tail = y ∷ octet ∷ [] }
+kept_behind standing [] octet = record standing { scan = start; tail = octet ∷ [] }
+kept_behind standing (last ∷ []) octet = record standing { tail = last ∷ octet ∷ [] }
+kept_behind standing (before ∷ last ∷ rest) octet =
+    if nat_lt standing.scan.at most_scanned then record standing { scan = scan_step standing.scan before; tail = last ∷ octet ∷ [] }
+    else record standing { too_long = true; tail = last ∷ octet ∷ [] }
 
 -- with one octet more of the begun line
 abbrev pub kept : Standing → ℕ → Standing
-kept s octet = kept_behind s s.tail octet
+kept standing octet = kept_behind standing standing.tail octet
 
 -- the mark of these two octets
 abbrev pub ends_marked : ℕ → ℕ → Bool
@@ -42,8 +44,8 @@ ends_marked before last = is_white before && last == semicolon
 -- the mark of a line that ends in these octets
 abbrev pub tail_marked : List ℕ → Bool
 tail_marked [] = false
-tail_marked (x ∷ []) = x == semicolon
-tail_marked (x ∷ y ∷ rest) = ends_marked x y
+tail_marked (last ∷ []) = last == semicolon
+tail_marked (before ∷ last ∷ rest) = ends_marked before last
 
 -- what this scan says was read
 pub record ReadsScan (scan : Scan) (words : List (List ℕ)) (found : Reading) (more : Bool) : Type 0 where
@@ -53,29 +55,35 @@ pub record ReadsScan (scan : Scan) (words : List (List ℕ)) (found : Reading) (
 -- what was read of a line that isn't too long
 abbrev pub ReadsTail : Scan → List ℕ → List (List ℕ) → Reading → Type 0
 ReadsTail scan [] words found = found ≡ reading.Blank false
-ReadsTail scan (x ∷ []) words found = MatchBool (x == semicolon) (ReadsScan scan words found true) (ReadsScan (scan_step scan x) words found false)
-ReadsTail scan (x ∷ y ∷ rest) words found = MatchBool (ends_marked x y) (ReadsScan scan words found true) (ReadsScan (scan_step (scan_step scan x) y) words found false)
+ReadsTail scan (last ∷ []) words found =
+    MatchBool (last == semicolon) (ReadsScan scan words found true) (ReadsScan (scan_step scan last) words found false)
+ReadsTail scan (before ∷ last ∷ rest) words found =
+    MatchBool (ends_marked before last) (ReadsScan scan words found true) (ReadsScan (scan_step (scan_step scan before) last) words found false)
 
 -- what was read of the line that was kept
 abbrev pub ReadsKept : Standing → List (List ℕ) → Reading → Type 0
-ReadsKept s words found = MatchBool s.too_long (found ≡ reading.Malformed longest_line LineTooLong (tail_marked s.tail)) (ReadsTail s.scan s.tail words found)
+ReadsKept standing words found =
+    MatchBool standing.too_long (found ≡ reading.Malformed longest_line LineTooLong (tail_marked standing.tail))
+    (ReadsTail standing.scan standing.tail words found)
 
 -- a line is over
 abbrev pub line_ended : Standing → Scan → Standing
-line_ended s scan = record s { scan = scan; tail = []; too_long = false }
+line_ended standing scan = record standing { scan = scan; tail = []; too_long = false }
 
 -- one line more of the block, which ends here or not
 abbrev pub counted_line : Standing → Bool → Standing
-counted_line s more = if s.lines == most_lines then record s { over = true } else record s { lines = if more then s.lines + 1 else 0 }
+counted_line standing more =
+    if standing.lines == most_lines then record standing { over = true }
+    else record standing { lines = if more then standing.lines + 1 else 0 }
 
 -- a line that was read is counted, unless it is blank
 abbrev pub counted : Standing → Reading → Standing
-counted s (reading.Blank more) = s
-counted s (reading.Words more) = counted_line s more
-counted s (reading.Malformed at reason more) = counted_line s more
+counted standing (reading.Blank more) = standing
+counted standing (reading.Words more) = counted_line standing more
+counted standing (reading.Malformed at reason more) = counted_line standing more
 
 -- what the end of such a line brings
 abbrev pub step_of : Standing → Reading → Step
-step_of s (reading.Blank more) = step.More
-step_of s (reading.Words more) = if s.lines == most_lines then step.BatchTooLong else step.Message (not more)
-step_of s (reading.Malformed at reason more) = if s.lines == most_lines then step.BatchTooLong else step.Malformed at reason (not more)
+step_of standing (reading.Blank more) = step.More
+step_of standing (reading.Words more) = if standing.lines == most_lines then step.BatchTooLong else step.Message (not more)
+step_of standing (reading.Malformed at reason more) = if standing.lines == most_lines then step.BatchTooLong else step.Malformed at reason (not more)

@@ -4,7 +4,8 @@ use Rattle.std.specs.Prelude.{codes, Some, None}
 use Rattle.cody_words.specs.Canonical.{is_bare_letter, quoted_octet, canonical_line}
 use Rattle.mapper_requests.specs.Numbers as numbers
 use Rattle.mapper_replies.specs.Values.{Hello, Pathname, Done, Truth, Error}
-use Rattle.mapper_replies.specs.Replies.{reply_of, reply_words}
+use Rattle.mapper_replies.specs.Replies.{reply_words}
+use Rattle.mapper_replies.specs.Working.{reply_of}
 
 hello : reply_of (codes "HELLO" ∷ codes "1" ∷ codes "modmap" ∷ []) ≡ Some (Hello (codes "modmap") 0)
 hello = refl

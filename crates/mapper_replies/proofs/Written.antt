@@ -1,20 +1,19 @@
 -- The words in which a reply is written are that reply.
 use Rattle.std.proofs.Common.{◌≡◌, ◌≢◌, ℕ, ◌≤◌, inl, inr, Bool, true, false, cond, eqb, List, [], ◌∷◌, length, refl, sym, subst, arith}
-use Rattle.std.specs.Prelude.{codes, decimal, Some}
+use Rattle.std.specs.Prelude.{codes, decimal}
 use Rattle.std.proofs.lemmas.Bool.{eqb-true}
 use Rattle.cody_words.specs.Lines.{Meaning, Words, Says, longest_line}
 use Rattle.cody_words.specs.Canonical.{canonical_text}
 use Rattle.cody_words.proofs.Fits.{words_fit}
 use Rattle.cody_words.proofs.Verdicts.{one_meaning}
 use Rattle.cody_words.proofs.Canon.{line_says_its_words}
-use Rattle.mapper_requests.specs.Numbers.{greatest_number}
+use Rattle.mapper_requests.specs.Numbers.{IsNumber}
 use Rattle.mapper_replies.specs.Values.{ReplyValue, Hello, Pathname, Done, Truth, Error, HasNumber}
-use Rattle.mapper_replies.specs.Replies.{IsReply, reply_of, reply_words, SaysReply}
+use Rattle.mapper_replies.specs.Replies.{IsReply, reply_words, SaysReply}
 use Rattle.mapper_requests.proofs.Digits.{number_back}
-use Rattle.mapper_replies.proofs.Tables.{is_reply_of}
 
 -- the words of a greeting, with flags where they aren't 0
-hello_is : (zero_flags : Bool) (builder : List ℕ) (flags : ℕ) → eqb flags 0 ≡ zero_flags → flags ≤ greatest_number → IsReply (codes "HELLO" ∷ codes "1" ∷ builder ∷ cond zero_flags [] (decimal flags ∷ [])) (Hello builder flags)
+hello_is : (zero_flags : Bool) (builder : List ℕ) (flags : ℕ) → eqb flags 0 ≡ zero_flags → IsNumber flags → IsReply (codes "HELLO" ∷ codes "1" ∷ builder ∷ cond zero_flags [] (decimal flags ∷ [])) (Hello builder flags)
 hello_is true builder flags e le = inl (refl, eqb-true flags 0 e)
 hello_is false builder flags e le = inr (decimal flags, refl, number_back flags (omega arith))
 
@@ -51,9 +50,9 @@ words_same : (one other : List (List ℕ)) → said one ≡ said other → one �
 words_same one other e = cc
 
 -- and whatever words it is read as are the reply
-pub read_back : (value : ReplyValue) (more again : Bool) (words : List (List ℕ)) → HasNumber value → Says (canonical_text (reply_words value) more) (Words words) again → (reply_of words ≡ Some value) × (again ≡ more)
+pub read_back : (value : ReplyValue) (more again : Bool) (words : List (List ℕ)) → HasNumber value → Says (canonical_text (reply_words value) more) (Words words) again → IsReply words value × (again ≡ more)
 read_back value more again words h says =
     let line = canonical_text (reply_words value) more in
     let mine = line_says_its_words (reply_words value) more (words_some value) (words_fit line words again says).0 in
     let same = one_meaning line (Words words) (Words (reply_words value)) again more says mine in
-    (subst (λ (w : List (List ℕ)). reply_of w ≡ Some value) (sym (words_same words (reply_words value) same.0)) (is_reply_of (reply_words value) value (words_are value h)), same.1)
+    (subst (λ (said : List (List ℕ)). IsReply said value) (sym (words_same words (reply_words value) same.0)) (words_are value h), same.1)

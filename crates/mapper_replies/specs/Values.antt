@@ -1,9 +1,8 @@
 -- What is seen of a reply: its texts themselves, and not where they stand.
-use Rattle.std.specs.Prelude.{ℕ, ◌+◌, ◌*◌, ◌≤◌, Bool, List, length, Option, Some, None, Result, Ok, Err}
+use Rattle.std.specs.Prelude.{ℕ, ◌+◌, ◌*◌, Bool, List, length}
 use Rattle.mapper_replies.specs.declared.reply.Reply.{Reply}
 use Rattle.mapper_replies.specs.declared.reply.Reply.TheVariants as reply
-use Rattle.mapper_replies.specs.declared.reply.NotAReply.{NotAReply}
-use Rattle.mapper_requests.specs.Numbers.{greatest_number}
+use Rattle.mapper_requests.specs.Numbers.{IsNumber}
 
 -- A reply: a greeting with the builder and its flags, a path, an assent, a truth value, or an error message.
 pub data ReplyValue : Type 0 where
@@ -21,11 +20,6 @@ value_of reply.Done = Done
 value_of (reply.Bool truth) = Truth truth
 value_of (reply.Error message) = Error message.now
 
--- the value that was read, if one was
-abbrev pub read_value : Result Reply NotAReply → Option ReplyValue
-read_value (Ok reply) = Some (value_of reply)
-read_value (Err none) = None
-
 -- the octets of a reply's texts
 abbrev pub text_octets : ReplyValue → ℕ
 text_octets (Hello builder flags) = length builder
@@ -40,7 +34,7 @@ reply_room value = 3 * text_octets value + 64
 
 -- the flags are a number
 abbrev pub HasNumber : ReplyValue → Type 0
-HasNumber (Hello builder flags) = flags ≤ greatest_number
+HasNumber (Hello builder flags) = IsNumber flags
 HasNumber (Pathname path) = Unit {0}
 HasNumber Done = Unit {0}
 HasNumber (Truth truth) = Unit {0}

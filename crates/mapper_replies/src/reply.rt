@@ -3,8 +3,13 @@
 /// A reply of a mapper (libcody's protocol text).
 #[derive(Clone, Copy, Debug, PartialEq, Eq)]
 pub enum Reply<'a> {
-    /// The greeting: what serves the connection, and its flags, 0 where it sent none.
-    Hello { builder: &'a [u8], flags: u32 },
+    /// The greeting, `HELLO 1 builder [flags]`: the connection is accepted.
+    Hello {
+        /// The mapper's own word for itself.
+        builder: &'a [u8],
+        /// Flags, by which a mapper may tell what it wants to be asked; 0 where the word is missing.
+        flags: u32,
+    },
     /// A path.
     Pathname(&'a [u8]),
     /// Nothing but assent.

@@ -1,5 +1,5 @@
 -- What is written of a request is read back.
-use Rattle.std.proofs.Common.{◌≡◌, ◌≢◌, ℕ, ◌<◌, ◌≤◌, ◌^◌, zero, suc, Bool, true, false, cond, eqb, List, [], ◌∷◌, length, refl, ap, ◌∙◌, arith}
+use Rattle.std.proofs.Common.{◌≡◌, ◌≢◌, ℕ, ◌≤◌, zero, suc, Bool, true, false, cond, eqb, List, [], ◌∷◌, length, refl, ap, ◌∙◌, arith}
 use Rattle.std.specs.Prelude.{Some, codes, decimal}
 use Rattle.std.proofs.lemmas.Bool.{ne_eqb}
 use Rattle.cody_words.specs.Lines.{Words, Says, longest_line}
@@ -8,12 +8,13 @@ use Rattle.cody_words.proofs.Canon.{line_says_its_words}
 use Rattle.cody_words.proofs.Fits.{words_fit}
 use Rattle.cody_words.proofs.Verdicts.{one_meaning}
 use Rattle.mapper_requests.specs.Asked.{Asked, Hello, Repo, Export, Import, Compiled, Translate, Bad, IsGood, HasNumbers}
+use Rattle.mapper_requests.specs.Numbers.{IsNumber}
 use Rattle.mapper_requests.specs.Requests.{Row, row, named, flags_of, has_count, asked_in, request}
 use Rattle.mapper_requests.specs.Writing.{given_text, given_flags, request_words}
 use Rattle.mapper_requests.proofs.Digits.{number_back}
 
 -- flags that are written are read back
-flags_back : (verb name : List ℕ) (flags : ℕ) → flags < 2 ^ 32 → flags_of (verb ∷ name ∷ given_flags flags) ≡ Some flags
+flags_back : (verb name : List ℕ) (flags : ℕ) → IsNumber flags → flags_of (verb ∷ name ∷ given_flags flags) ≡ Some flags
 flags_back verb name zero small = refl
 flags_back verb name (suc n) small = rw (ne_eqb (suc n) 0 (λ e. omega arith)) (number_back (suc n) small)
 
@@ -22,10 +23,10 @@ flags_count : (b : Bool) (verb name text : List ℕ) (r : Row) → r.least ≡ 2
 flags_count true verb name text r p q = rw (p, q) refl
 flags_count false verb name text r p q = rw (p, q) refl
 
-named_back : (verb name : List ℕ) (asks : List ℕ → ℕ → Asked) (flags : ℕ) → flags < 2 ^ 32 → asked_in (Some (row verb 2 3 (named asks))) (verb ∷ name ∷ given_flags flags) ≡ asks name flags
+named_back : (verb name : List ℕ) (asks : List ℕ → ℕ → Asked) (flags : ℕ) → IsNumber flags → asked_in (Some (row verb 2 3 (named asks))) (verb ∷ name ∷ given_flags flags) ≡ asks name flags
 named_back verb name asks flags small = rw (flags_count (eqb flags 0) verb name (decimal flags) (row verb 2 3 (named asks)) refl refl, flags_back verb name flags small) refl
 
-hello_back : (version : ℕ) (compiler ident : List ℕ) → version < 2 ^ 32 → request (codes "HELLO" ∷ decimal version ∷ compiler ∷ given_text ident) ≡ Hello version compiler ident
+hello_back : (version : ℕ) (compiler ident : List ℕ) → IsNumber version → request (codes "HELLO" ∷ decimal version ∷ compiler ∷ given_text ident) ≡ Hello version compiler ident
 unfolding request
 hello_back version compiler [] small = rw (number_back version small) refl
 hello_back version compiler (c ∷ ident) small = rw (ne_eqb (length (c ∷ ident)) 0 (λ e. omega arith), number_back version small) refl

@@ -1,5 +1,5 @@
 -- The table of requests: its verbs, and the numbers of what is read by it.
-use Rattle.std.proofs.Common.{◌≡◌, ℕ, ◌+◌, ◌*◌, ◌<◌, ◌≤◌, ◌^◌, zero, suc, Bool, true, false, ◌&&◌, cond, List, [], ◌∷◌, length, map, refl, ap, ◌∙◌, arith}
+use Rattle.std.proofs.Common.{◌≡◌, ℕ, ◌+◌, ◌*◌, ◌≤◌, zero, suc, Bool, true, false, ◌&&◌, cond, List, [], ◌∷◌, length, map, refl, ap, ◌∙◌, arith}
 use Rattle.std.specs.Prelude.{Option, Some, None, unwrap_or, find, nat_le}
 use Rattle.std.specs.Option.{option_map}
 use Rattle.std.specs.List.{AllByRecursion}
@@ -10,7 +10,7 @@ use Rattle.mapper_requests.specs.declared.request.Bad.{Bad as Cause}
 use Rattle.mapper_requests.specs.declared.request.Bad.TheVariants.{UnknownVerb, WrongWords, BadNumber}
 use Rattle.mapper_requests.specs.declared.verb.TheConstants.{VERBS}
 use Rattle.mapper_requests.specs.Asked.{Asked, Hello, Export, Import, Compiled, Translate, Bad, HasNumbers}
-use Rattle.mapper_requests.specs.Numbers.{number_of, digits_value, is_digits, greatest_number}
+use Rattle.mapper_requests.specs.Numbers.{number_of, digits_value, is_digits, IsNumber, greatest_number}
 use Rattle.mapper_requests.specs.Requests.{Row, table, hello, named, flags_of, word_at, find_row, has_count, asked_in, request}
 use Rattle.mapper_requests.specs.Writing.{request_room}
 use Rattle.mapper_requests.specs.Working.{row_of}
@@ -28,20 +28,20 @@ find-map f p (x ∷ xs) = option_map-cond f (p (f x)) (Some x) (find (λ x. p (f
 pub find_row_is : (word : List ℕ) → option_map row_of (find (λ v. bytes_eq word (row_of v).verb) VERBS) ≡ find_row word
 find_row_is word = find-map row_of (λ (r : Row). bytes_eq word r.verb) VERBS
 
--- a number that may be missing is below 2 ^ 32
+-- a value is a number, where there is one
 abbrev IsSmall : Option ℕ → Type 0
 IsSmall None = Unit {0}
-IsSmall (Some n) = n < 2 ^ 32
+IsSmall (Some n) = IsNumber n
 
 -- a number where the test holds
 abbrev if_some : Bool → ℕ → Option ℕ
 if_some b n = cond b (Some n) None
 
-small_if : (b : Bool) (n : ℕ) → (b ≡ true → n < 2 ^ 32) → IsSmall (if_some b n)
+small_if : (b : Bool) (n : ℕ) → (b ≡ true → IsNumber n) → IsSmall (if_some b n)
 small_if true n h = h refl
 small_if false n h = tt
 
-below_greatest : (n : ℕ) → nat_le n greatest_number ≡ true → n < 2 ^ 32
+below_greatest : (n : ℕ) → nat_le n greatest_number ≡ true → IsNumber n
 below_greatest n e = grind (arith, nat_tests)
 
 number_small : (word : List ℕ) → IsSmall (number_of word)
@@ -78,17 +78,17 @@ by_table : (P : Asked → Type 0) → ((why : Cause) → P (Bad why)) → (words
 unfolding request
 by_table P bad words h = by_rows P bad (λ (r : Row). bytes_eq (word_at words 0) r.verb) table words h
 
-map_form : (P : Asked → Type 0) (asks : ℕ → Asked) (o : Option ℕ) → ((n : ℕ) → n < 2 ^ 32 → P (asks n)) → IsSmall o → Forms P (option_map asks o)
+map_form : (P : Asked → Type 0) (asks : ℕ → Asked) (o : Option ℕ) → ((n : ℕ) → IsNumber n → P (asks n)) → IsSmall o → Forms P (option_map asks o)
 map_form P asks None h s = tt
 map_form P asks (Some n) h s = h n s
 
-hello_form : (P : Asked → Type 0) (words : List (List ℕ)) → ((n : ℕ) → n < 2 ^ 32 → P (Hello n (word_at words 2) (word_at words 3))) → Forms P (hello words)
+hello_form : (P : Asked → Type 0) (words : List (List ℕ)) → ((n : ℕ) → IsNumber n → P (Hello n (word_at words 2) (word_at words 3))) → Forms P (hello words)
 hello_form P words h = map_form P (λ (n : ℕ). Hello n (word_at words 2) (word_at words 3)) (number_of (word_at words 1)) h (number_small (word_at words 1))
 
-named_form : (P : Asked → Type 0) (asks : List ℕ → ℕ → Asked) (words : List (List ℕ)) → ((n : ℕ) → n < 2 ^ 32 → P (asks (word_at words 1) n)) → Forms P (named asks words)
+named_form : (P : Asked → Type 0) (asks : List ℕ → ℕ → Asked) (words : List (List ℕ)) → ((n : ℕ) → IsNumber n → P (asks (word_at words 1) n)) → Forms P (named asks words)
 named_form P asks words h = map_form P (asks (word_at words 1)) (flags_of words) h (flags_small words)
 
--- the numbers of a request are below 2 ^ 32
+-- the version and the flags of a request that is read are numbers
 pub numbers_small : (words : List (List ℕ)) → HasNumbers (request words)
 numbers_small words =
     let P = λ (asked : Asked). HasNumbers asked in

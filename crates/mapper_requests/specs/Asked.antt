@@ -1,8 +1,9 @@
 -- What is asked by a request.
-use Rattle.std.specs.Prelude.{ℕ, ◌<◌, ◌^◌, List}
+use Rattle.std.specs.Prelude.{ℕ, List}
 use Rattle.mapper_requests.specs.declared.request.Bad.{Bad as Cause}
 use Rattle.mapper_requests.specs.declared.request.Request.{Request}
 use Rattle.mapper_requests.specs.declared.request.Request.TheVariants as lent
+use Rattle.mapper_requests.specs.Numbers.{IsNumber}
 
 -- What a request asks: HELLO with its version, compiler and ident, MODULE-REPO, the requests with a name and flags,
 -- and words that are none of these.
@@ -35,12 +36,12 @@ IsGood (Compiled name flags) = Unit {0}
 IsGood (Translate name flags) = Unit {0}
 IsGood (Bad why) = ⊥
 
--- the version or the flags are below 2 ^ 32
+-- the version or the flags are a number
 abbrev pub HasNumbers : Asked → Type 0
-HasNumbers (Hello version compiler ident) = version < 2 ^ 32
+HasNumbers (Hello version compiler ident) = IsNumber version
 HasNumbers Repo = Unit {0}
-HasNumbers (Export name flags) = flags < 2 ^ 32
-HasNumbers (Import name flags) = flags < 2 ^ 32
-HasNumbers (Compiled name flags) = flags < 2 ^ 32
-HasNumbers (Translate name flags) = flags < 2 ^ 32
+HasNumbers (Export name flags) = IsNumber flags
+HasNumbers (Import name flags) = IsNumber flags
+HasNumbers (Compiled name flags) = IsNumber flags
+HasNumbers (Translate name flags) = IsNumber flags
 HasNumbers (Bad why) = Unit {0}

@@ -1,5 +1,5 @@
 -- Numbers, as requests and replies spell them.
-use Rattle.std.specs.Prelude.{ℕ, ◌+◌, ◌-◌, ◌*◌, Bool, ◌&&◌, not, ◌==◌, nat_le, if◌then◌else◌, List, length, Option, Some, None}
+use Rattle.std.specs.Prelude.{ℕ, ◌≤◌, ◌+◌, ◌-◌, ◌*◌, Bool, ◌&&◌, not, ◌==◌, nat_le, if◌then◌else◌, List, length, Option, Some, None}
 use Rattle.std.specs.Char.{is_ascii_digit}
 use Rattle.std.specs.List.{fold, list_all}
 
@@ -10,6 +10,10 @@ most_digits = 10
 -- the greatest number
 abbrev pub greatest_number : ℕ
 greatest_number = 4294967295
+
+-- a value that a number may have: at most the greatest number
+abbrev pub IsNumber : ℕ → Type 0
+IsNumber value = value ≤ greatest_number
 
 -- one to ten decimal digits
 abbrev pub is_digits : List ℕ → Bool

@@ -6,9 +6,9 @@ use Rattle.mapper_requests.specs.declared.request.Bad.TheVariants.{UnknownVerb, 
 use Rattle.mapper_requests.specs.Numbers.{number_of}
 use Rattle.mapper_requests.specs.Asked.{Asked, Hello, Repo, Export, Import, Compiled, Translate, Bad}
 
--- the word at a place, or nothing where there is none
+-- the word at a place, counted from 0, or the empty word where there is none
 abbrev pub word_at : List (List ℕ) → ℕ → List ℕ
-word_at words k = slice_index_or words k []
+word_at words place = slice_index_or words place []
 
 -- the flags behind a name, 0 where they are missing
 abbrev pub flags_of : List (List ℕ) → Option ℕ
@@ -37,16 +37,33 @@ pub record Row : Type 0 where
 abbrev pub row : List ℕ → ℕ → ℕ → (List (List ℕ) → Option Asked) → Row
 row verb least most form = record { verb = verb; least = least; most = most; form = form }
 
+-- the row of HELLO
+abbrev pub hello_row : Row
+hello_row = row (codes "HELLO") 3 4 hello
+
+-- the row of MODULE-REPO
+abbrev pub repo_row : Row
+repo_row = row (codes "MODULE-REPO") 1 1 (alone Repo)
+
+-- the row of MODULE-EXPORT
+abbrev pub export_row : Row
+export_row = row (codes "MODULE-EXPORT") 2 3 (named Export)
+
+-- the row of MODULE-IMPORT
+abbrev pub import_row : Row
+import_row = row (codes "MODULE-IMPORT") 2 3 (named Import)
+
+-- the row of MODULE-COMPILED
+abbrev pub compiled_row : Row
+compiled_row = row (codes "MODULE-COMPILED") 2 3 (named Compiled)
+
+-- the row of INCLUDE-TRANSLATE
+abbrev pub translate_row : Row
+translate_row = row (codes "INCLUDE-TRANSLATE") 2 3 (named Translate)
+
 -- the table of requests
 abbrev pub table : List Row
-table =
-    row (codes "HELLO") 3 4 hello
-    ∷ row (codes "MODULE-REPO") 1 1 (alone Repo)
-    ∷ row (codes "MODULE-EXPORT") 2 3 (named Export)
-    ∷ row (codes "MODULE-IMPORT") 2 3 (named Import)
-    ∷ row (codes "MODULE-COMPILED") 2 3 (named Compiled)
-    ∷ row (codes "INCLUDE-TRANSLATE") 2 3 (named Translate)
-    ∷ []
+table = hello_row ∷ repo_row ∷ export_row ∷ import_row ∷ compiled_row ∷ translate_row ∷ []
 
 -- the row of a verb
 abbrev pub find_row : List ℕ → Option Row

@@ -1,19 +1,19 @@
 //! Laws of requests, as the contracts of functions that do nothing.
 
-ghost use Rattle.std.specs.Prelude.{◌≡◌, ◌+◌, ◌≤◌, ◌<◌, ◌^◌, List, ℕ, Bool, Some, length, decimal};
+ghost use Rattle.std.specs.Prelude.{◌≡◌, ◌+◌, ◌≤◌, List, ℕ, Bool, Some, length, decimal};
 ghost use Rattle.cody_words.specs.Lines.{Words, Says, longest_line};
 ghost use Rattle.cody_words.specs.Canonical as canonical;
 ghost use Rattle.mapper_requests.specs.Asked.{Asked, IsGood, HasNumbers};
-ghost use Rattle.mapper_requests.specs.Numbers.{number_of};
+ghost use Rattle.mapper_requests.specs.Numbers.{number_of, IsNumber};
 ghost use Rattle.mapper_requests.specs.Requests.{request};
 ghost use Rattle.mapper_requests.specs.Writing.{request_room, request_words};
 
 /// A number that is written is read back.
 pub fn number_read_back()
-    ensures { (number : ℕ) → number < 2 ^ 32 → number_of (decimal number) ≡ Some number }
+    ensures { (value : ℕ) → IsNumber value → number_of (decimal value) ≡ Some value }
 {}
 
-/// The numbers of a request that is read are below 2 ^ 32.
+/// The version and the flags of a request that is read are numbers, at most 4,294,967,295.
 pub fn numbers_fit()
     ensures { (words : List (List ℕ)) → HasNumbers (request words) }
 {}

@@ -25,8 +25,8 @@ mod verb;
 mod writer;
 
 pub use laws::{line_read_back, number_read_back, numbers_fit, room_fits, words_read_back};
-pub use number::read_number;
-pub use reader::read;
+pub use number::{read_decimal, read_number};
+pub use reader::{read, word_or_empty};
 pub use request::{Bad, Request};
 pub use writer::write_into;
 

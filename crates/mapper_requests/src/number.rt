@@ -1,9 +1,11 @@
 //! Reading numbers.
 
-ghost use Rattle.std.specs.Prelude.{◌≡◌, ◌≤◌, true, length};
+ghost use Rattle.std.specs.Prelude.{◌≡◌, ◌≢◌, ◌≤◌, ℕ, true, length, None, IfSome, decimal};
 ghost use Rattle.std.specs.List.{list_all};
 ghost use Rattle.std.specs.Char.{is_ascii_digit};
-ghost use Rattle.mapper_requests.specs.Numbers.{digits_value, is_digits, most_digits, number_of};
+ghost use Rattle.mapper_requests.specs.Numbers.{IsNumber, digits_value, is_digits, most_digits, number_of};
+
+use itoa::Buffer;
 
 /// The most digits of a number.
 const MOST_DIGITS: usize = 10;
@@ -45,4 +47,21 @@ pub fn read_number(word: &[u8]) -> Option<u32>
         return None;
     }
     u32::try_from(digits_value(word)).ok()
+}
+
+/// The number whose decimal digits the word is, without leading zeros; `None` where it is that of no number up to
+/// 4,294,967,295 (this project's own).
+pub fn read_decimal(word: &[u8]) -> Option<u32>
+    ensures number { IfSome result (λ number. word.now ≡ decimal number) }
+    ensures none { result ≡ None → (number : ℕ) → IsNumber number → word.now ≢ decimal number }
+{
+    let Some(number) = read_number(word) else {
+        return None;
+    };
+    let mut digits = Buffer::new();
+    if digits.format(number).as_bytes() == word {
+        Some(number)
+    } else {
+        None
+    }
 }

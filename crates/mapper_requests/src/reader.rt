@@ -11,11 +11,15 @@ use crate::request::{Bad, Request};
 use crate::verb::Verb;
 use cody_words::Words;
 
-/// The word at place `k`, or nothing where there is none.
-fn word_or_empty(words: &Words, k: u32) -> &[u8]
-    ensures { result.now ≡ word_at words.now k }
+/// The word at that place, counted from 0, or the empty word where there is none.
+pub fn word_or_empty(words: &Words, place: u32) -> &[u8]
+    ensures word_at { result.now ≡ word_at words.now place }
 {
-    if k < words.len() { words.word(k) } else { b"" }
+    if place < words.len() {
+        words.word(place)
+    } else {
+        b""
+    }
 }
 
 /// The flags of a request with a name: the third word, or 0 where there is none.
