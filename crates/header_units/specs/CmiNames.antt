@@ -8,18 +8,18 @@ use Rattle.header_units.specs.Names.{is_relative, is_absolute}
 -- What stands for a component of a path. Commas become three more, and so does nothing.
 abbrev pub cmi_component : List ℕ → List ℕ
 cmi_component part =
-    if list_all (λ c. c == comma) part then part ++ codes ",,,"
+    if list_all (λ octet. octet == comma) part then part ++ codes ",,,"
     else if bytes_eq part (codes ".") then codes ","
     else if bytes_eq part (codes "..") then codes ",,"
     else part
 
 -- a path with each component between slashes replaced
 abbrev pub cmi_path : List ℕ → List ℕ
-cmi_path path = join_with_byte slash (map cmi_component (slice_split (λ c. c == slash) path))
+cmi_path path = join_with_byte slash (map cmi_component (slice_split (λ octet. octet == slash) path))
 
 -- a dash for the colon
 abbrev pub cmi_octet : ℕ → ℕ
-cmi_octet c = if c == colon then dash else c
+cmi_octet octet = if octet == colon then dash else octet
 
 -- the CMI name without its ending
 unfoldable pub cmi_stem : List ℕ → List ℕ

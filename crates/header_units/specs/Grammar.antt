@@ -12,7 +12,7 @@ pub record IsIdentifier (word : List ℕ) : Type 0 where
   pub rest : List ℕ
   pub whole : word ≡ first ∷ rest
   pub letter : is_letter first ≡ true
-  pub each : AllByRecursion (λ c. is_letter_or_digit c ≡ true) rest
+  pub each : AllByRecursion (λ octet. is_letter_or_digit octet ≡ true) rest
   pub short : length word ≤ longest_identifier
 
 -- A dotted name: identifiers joined by dots.
@@ -37,7 +37,7 @@ pub record IsHeader (name : List ℕ) : Type 0 where
   pub root_is : (root ≡ codes "./") ⊎ (root ≡ codes "/")
   pub some : rest ≢ []
   pub joined : name ≡ root ++ rest
-  pub each : AllByRecursion (λ c. is_path_octet c ≡ true) name
+  pub each : AllByRecursion (λ octet. is_path_octet octet ≡ true) name
 
 -- The form that a name of a kind has.
 abbrev pub HasForm : NameKind → List ℕ → Type 0

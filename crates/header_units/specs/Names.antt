@@ -20,11 +20,11 @@ is_identifier (first ∷ rest) = is_letter first && list_all is_letter_or_digit 
 
 -- each part between dots is an identifier
 abbrev pub is_dotted : List ℕ → Bool
-is_dotted name = list_all is_identifier (slice_split (λ c. c == dot) name)
+is_dotted name = list_all is_identifier (slice_split (λ octet. octet == dot) name)
 
 -- a dotted name stands before the first colon, and one behind it
 abbrev pub is_partition : List ℕ → Bool
-is_partition name = is_dotted (before_first (λ c. c == colon) name) && is_dotted (after_first (λ c. c == colon) name)
+is_partition name = is_dotted (before_first (λ octet. octet == colon) name) && is_dotted (after_first (λ octet. octet == colon) name)
 
 -- begins with `./`
 abbrev pub is_relative : List ℕ → Bool
@@ -54,5 +54,5 @@ name_kind name =
 -- the part before the colon of a partition, and else the whole name
 abbrev pub module_of : NameKind → List ℕ → List ℕ
 module_of Primary name = name
-module_of Partition name = before_first (λ c. c == colon) name
+module_of Partition name = before_first (λ octet. octet == colon) name
 module_of Header name = name

@@ -15,7 +15,7 @@ pub const CMI_NAME_ROOM: u32 = 2100;
 
 /// Whether each octet is a comma.
 fn have_commas(part: &[u8]) -> bool
-    ensures { result ≡ list_all (λ c. c == comma) part.now }
+    ensures { result ≡ list_all (λ octet. octet == comma) part.now }
 {
     part.iter().all(|octet| *octet == b',')
 }

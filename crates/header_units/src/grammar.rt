@@ -18,7 +18,7 @@ const LONGEST_IDENTIFIER: usize = 255;
 fn is_letter(octet: u8) -> bool
     ensures { result ≡ is_letter octet }
 {
-    matches!(octet, b'A'..=b'Z' | b'a'..=b'z' | b'_')
+    octet.is_ascii_alphabetic() || octet == b'_'
 }
 
 /// Whether an identifier may go on with the octet.
@@ -33,7 +33,7 @@ fn is_letter_or_digit(octet: u8) -> bool
 fn is_path_octet(octet: u8) -> bool
     ensures { result ≡ is_path_octet octet }
 {
-    !(octet < b' ' || octet == 0x7f)
+    !octet.is_ascii_control()
 }
 
 /// Whether the octets are an identifier.
@@ -65,17 +65,17 @@ fn is_dotted(name: &[u8]) -> bool
 
 /// The place of the first such octet, if there is one.
 fn place_of(octets: &[u8], mark: u8) -> Option<usize>
-    ensures { result ≡ position (λ c. c == mark) octets.now }
+    ensures { result ≡ position (λ octet. octet == mark) octets.now }
 {
     octets.iter().position(|octet| *octet == mark)
 }
 
 /// What stands before the first such octet, and what stands behind it, if there is one.
 pub(crate) fn cut_at(octets: &[u8], mark: u8) -> Option<(&[u8], &[u8])>
-    ensures none { IfNone result (length octets.now ≤ position_or_len (λ c. c == mark) octets.now) }
-    ensures found { OnSome result (position_or_len (λ c. c == mark) octets.now < length octets.now) }
-    ensures front { IfSome result (λ parts. parts.0.now ≡ before_first (λ c. c == mark) octets.now) }
-    ensures back { IfSome result (λ parts. parts.1.now ≡ after_first (λ c. c == mark) octets.now) }
+    ensures none { IfNone result (length octets.now ≤ position_or_len (λ octet. octet == mark) octets.now) }
+    ensures found { OnSome result (position_or_len (λ octet. octet == mark) octets.now < length octets.now) }
+    ensures front { IfSome result (λ parts. parts.0.now ≡ before_first (λ octet. octet == mark) octets.now) }
+    ensures back { IfSome result (λ parts. parts.1.now ≡ after_first (λ octet. octet == mark) octets.now) }
 {
     match place_of(octets, mark) {
         Some(at) => {

@@ -1,41 +1,41 @@
 -- The lines of a text, by its first line.
-use Rattle.std.proofs.Common.{◌≡◌, ℕ, ◌+◌, ◌<◌, ◌≤◌, suc, Bool, true, false, cond, eqb, not, List, [], ◌∷◌, length, take, drop, refl, ap, ◌∙◌, arith}
-use Rattle.std.specs.List.{onto_first, position_or_len, before_first, after_first}
+use Rattle.std.proofs.Common.{◌≡◌, ◌≢◌, ℕ, ◌+◌, ◌<◌, suc, List, [], ◌∷◌, ◌++◌, length, take, drop, get_or, refl, sym, ap, subst, ◌∙◌, arith}
+use Rattle.std.specs.List.{All, onto_first}
+use Rattle.std.proofs.lemmas.Bool.{ne_eqb, eqb-true, eq-eqb, cond-false}
+use Rattle.std.proofs.lemmas.List.{take-append-drop, drop_more, get_or-take, length-take, get_or_default}
+use Rattle.memchr.specs.Find.{Nowhere, NoneBefore, Passes, is_byte}
+use Rattle.cody_words.specs.Octets.{newline}
 use Rattle.unit_registry.specs.Lines.{lines_of}
 
--- whether a line ends before the octet
-abbrev pub ends : ℕ → Bool
-ends c = eqb c 10
-
 -- the first line ends at the first NEWLINE
-pub lines_of-found : (text : List ℕ) → position_or_len ends text < length text → lines_of text ≡ before_first ends text ∷ lines_of (after_first ends text)
-lines_of-found [] h = absurd (omega arith)
-lines_of-found (c ∷ rest) h = by (ends c) h (λ within. lines_of-found rest within)
-  where
-    by : (b : Bool) → cond (not b) (1 + position_or_len ends rest) 0 < suc (length rest)
-        → (position_or_len ends rest < length rest → lines_of rest ≡ before_first ends rest ∷ lines_of (after_first ends rest))
-        → cond b ([] ∷ lines_of rest) (onto_first c (lines_of rest)) ≡ take (cond (not b) (1 + position_or_len ends rest) 0) (c ∷ rest) ∷ lines_of (drop (cond (not b) (1 + position_or_len ends rest) 0 + 1) (c ∷ rest))
-    by true within again = refl
-    by false within again =
-        let inner : lines_of rest ≡ before_first ends rest ∷ lines_of (after_first ends rest) = again (omega arith) in
-        let one : suc (position_or_len ends rest) ≡ 1 + position_or_len ends rest = omega arith in
-        let two : suc (position_or_len ends rest + 1) ≡ 1 + position_or_len ends rest + 1 = omega arith in
-        ap (onto_first c) inner
-        ∙ ap (λ n. take n (c ∷ rest) ∷ lines_of (drop (suc (position_or_len ends rest + 1)) (c ∷ rest))) one
-        ∙ ap (λ n. take (1 + position_or_len ends rest) (c ∷ rest) ∷ lines_of (drop n (c ∷ rest))) two
+pub lines_of-found : (line behind : List ℕ) → All (λ octet. octet ≢ newline) line → lines_of (line ++ newline ∷ behind) ≡ line ∷ lines_of behind
+lines_of-found [] behind none = refl
+lines_of-found (octet ∷ line) behind none =
+    cond-false _ _ _ (ne_eqb octet 10 (none 0 octet (omega arith)))
+    ∙ ap (onto_first octet) (lines_of-found line behind (λ k d below. none (suc k) d (omega arith)))
 
 -- a text without a NEWLINE is one line
-pub lines_of-none : (text : List ℕ) → length text ≤ position_or_len ends text → 0 < length text → lines_of text ≡ text ∷ []
-lines_of-none [] h some = absurd (omega arith)
-lines_of-none (c ∷ []) h some = by (ends c) h
-  where
-    by : (b : Bool) → 1 ≤ cond (not b) 1 0 → cond b ([] ∷ []) ((c ∷ []) ∷ []) ≡ (c ∷ []) ∷ []
-    by true le = absurd (omega arith)
-    by false le = refl
-lines_of-none (c ∷ d ∷ rest) h some = by (ends c) h (λ le. lines_of-none (d ∷ rest) le (omega arith))
-  where
-    by : (b : Bool) → suc (suc (length rest)) ≤ cond (not b) (1 + position_or_len ends (d ∷ rest)) 0
-        → (suc (length rest) ≤ position_or_len ends (d ∷ rest) → lines_of (d ∷ rest) ≡ (d ∷ rest) ∷ [])
-        → cond b ([] ∷ lines_of (d ∷ rest)) (onto_first c (lines_of (d ∷ rest))) ≡ (c ∷ d ∷ rest) ∷ []
-    by true le inner = absurd (omega arith)
-    by false le inner = ap (onto_first c) (inner (omega arith))
+pub lines_of-none : (text : List ℕ) → All (λ octet. octet ≢ newline) text → 0 < length text → lines_of text ≡ text ∷ []
+lines_of-none [] none some = absurd (omega arith)
+lines_of-none (octet ∷ []) none some = cond-false _ _ _ (ne_eqb octet 10 (none 0 octet (omega arith)))
+lines_of-none (octet ∷ next ∷ rest) none some =
+    cond-false _ _ _ (ne_eqb octet 10 (none 0 octet (omega arith)))
+    ∙ ap (onto_first octet) (lines_of-none (next ∷ rest) (λ k d below. none (suc k) d (omega arith)) (omega arith))
+
+-- what stands before the first NEWLINE has none
+pub front_lacks : (octets line : List ℕ) (place : ℕ) → line ≡ take place octets → NoneBefore (Passes (is_byte newline) octets) 0 (length octets) place → All (λ octet. octet ≢ newline) line
+front_lacks octets line place front first = subst (λ (front : List ℕ). All (λ octet. octet ≢ newline) front) (sym front) (λ k d below is.
+    let short : k < place = omega (arith, length-take place octets) in
+    first.before k (omega arith) short (eq-eqb (get_or octets k 0) 10 (get_or_default octets k 0 d (omega (arith, first.high)) ∙ sym (get_or-take place octets k d short) ∙ is)))
+
+-- the octets are what stands before a NEWLINE, it, and what stands behind it
+pub cut_whole : (octets line behind : List ℕ) (place : ℕ) → line ≡ take place octets → behind ≡ drop (place + 1) octets → place < length octets → Passes (is_byte newline) octets place → octets ≡ line ++ newline ∷ behind
+cut_whole octets line behind place front back within passes =
+    sym (take-append-drop place octets)
+    ∙ ap (λ (rest : List ℕ). take place octets ++ rest) (drop_more octets place 0 within ∙ ap (λ (octet : ℕ). octet ∷ drop (place + 1) octets) (eqb-true (get_or octets place 0) 10 passes))
+    ∙ ap (λ (before : List ℕ). before ++ newline ∷ drop (place + 1) octets) (sym front)
+    ∙ ap (λ (rest : List ℕ). line ++ newline ∷ rest) (sym back)
+
+-- octets without a NEWLINE
+pub whole_lacks : (octets : List ℕ) → Nowhere (Passes (is_byte newline) octets) 0 (length octets) → All (λ octet. octet ≢ newline) octets
+whole_lacks octets none = λ k d below is. none k (omega arith) below (eq-eqb (get_or octets k 0) 10 (get_or_default octets k 0 d below ∙ is))

@@ -1,10 +1,11 @@
 -- The first unit with a word, and the number of a word in a list.
-use Rattle.std.proofs.Common.{◌≡◌, ℕ, ◌+◌, ◌<◌, suc, Bool, true, false, cond, eqb, not, ◌&&◌, List, [], ◌∷◌, ◌++◌, length, map, Option, Some, None, refl, sym, ap, subst, ◌∙◌, arith}
+use Rattle.std.proofs.Common.{◌≡◌, ◌≢◌, ℕ, ◌+◌, ◌<◌, zero, suc, Bool, true, false, cond, eqb, not, ◌&&◌, List, [], ◌∷◌, ◌++◌, length, map, Option, Some, None, refl, sym, ap, subst, ◌∙◌, arith}
 use Rattle.std.specs.Prelude.{slice_get, IfSome}
 use Rattle.std.specs.List.{position_from}
+use Rattle.std.specs.Option.{option_map_or}
 use Rattle.std.specs.Str.{bytes_eq}
 use Rattle.std.specs.Map.{lookup}
-use Rattle.std.proofs.lemmas.Bool.{and_parts, and_right, ne_eqb}
+use Rattle.std.proofs.lemmas.Bool.{both_ways, and_parts, and_right, ne_eqb}
 use Rattle.std.proofs.lemmas.Option.{slice_get_within}
 use Rattle.std.proofs.lemmas.List.{map-append}
 use Rattle.std.proofs.lemmas.Slice.Eq.{bytes_eq-Decides}
@@ -66,6 +67,27 @@ find_by-within word_of units word k e = let found = find_by_at word_of units wor
 pub find_by-some : (word_of : Declared → List ℕ) (units : List Declared) (word : List ℕ) (k : ℕ) → find_by word_of units word ≡ Some k → 0 < length word
 find_by-some word_of units [] k e = let f : false ≡ true = (find_by_at word_of units [] k e).passes in let g : ⊥ = cc in absurd g
 find_by-some word_of units (c ∷ word) k e = omega arith
+
+-- an empty word is found nowhere
+position_from-empty : (word_of : Declared → List ℕ) (i : ℕ) (units : List Declared) → position_from (has_word word_of []) i units ≡ None
+position_from-empty word_of i [] = refl
+position_from-empty word_of i (unit ∷ units) = position_from-empty word_of (i + 1) units
+
+pub find_by-empty : (word_of : Declared → List ℕ) (units : List Declared) → find_by word_of units [] ≡ None
+unfolding find_by
+find_by-empty word_of units = position_from-empty word_of 0 units
+
+-- where nothing is found, no unit passes the test
+position_from-none : (test : Declared → Bool) (i : ℕ) (units : List Declared) → position_from test i units ≡ None → (k : ℕ) (unit : Declared) → slice_get units k ≡ Some unit → test unit ≡ false
+position_from-none test i [] none k unit at = let f : ⊥ = cc in absurd f
+position_from-none test i (first ∷ units) none k unit at = by (test first) refl none (λ later j behind. position_from-none test (i + 1) units later j unit behind) k at
+  where
+    by : (b : Bool) → test first ≡ b → cond b (Some i) (position_from test (i + 1) units) ≡ None
+        → (position_from test (i + 1) units ≡ None → (j : ℕ) → slice_get units j ≡ Some unit → test unit ≡ false)
+        → (k : ℕ) → slice_get (first ∷ units) k ≡ Some unit → test unit ≡ false
+    by true t later again k at = let f : ⊥ = cc in absurd f
+    by false t later again zero at = let same : first ≡ unit = cc in ap test (sym same) ∙ t
+    by false t later again (suc j) at = again later j at
 
 pub find_by-bound : (word_of : Declared → List ℕ) (units : List Declared) (word : List ℕ) (r : Option ℕ) → r ≡ find_by word_of units word → IfSome r (λ k. k < length units)
 find_by-bound word_of units word None e = tt
@@ -136,3 +158,16 @@ number_in-with word_of units unit entries (c ∷ word) own same q =
 pub with_number-some : (entries : List (List ℕ × ℕ)) (word : List ℕ) (n : ℕ) → false ≡ eqb (length word) 0 → with_number entries word n ≡ entries ++ (word, n) ∷ []
 with_number-some entries [] n e = let f : ⊥ = cc in absurd f
 with_number-some entries (c ∷ word) n e = refl
+
+-- where no unit is found by a word, none has it
+pub find_by-none : (word_of : Declared → List ℕ) (units : List Declared) (word : List ℕ) → 0 < length word → find_by word_of units word ≡ None
+    → (unit : ℕ) → option_map_or word_of (slice_get units unit) [] ≢ word
+unfolding find_by
+find_by-none word_of units word some none unit = by (slice_get units unit) refl
+  where
+    by : (r : Option Declared) → slice_get units unit ≡ r → option_map_or word_of r [] ≢ word
+    by None at is = absurd (omega (arith, ap length is))
+    by (Some found) at is =
+        let fails : has_word word_of word found ≡ false = position_from-none (has_word word_of word) 0 units none unit found at in
+        let own : has_word word_of (word_of found) found ≡ true = has_word-own word_of found (omega (arith, ap length is)) in
+        both_ways (has_word word_of word found) fails (ap (λ w. has_word word_of w found) (sym is) ∙ own)

@@ -1,4 +1,4 @@
--- A text declares a project exactly where it is a text of that project.
+-- A text declares a project exactly where its lines, one by one, reach the end of that project.
 use Rattle.std.proofs.Common.{◌≡◌, ◌≢◌, ℕ, ◌⊎◌, inl, inr, Bool, true, false, List, [], ◌∷◌, ◌++◌, refl, sym, ap, subst, ◌∙◌, rules}
 use Rattle.std.specs.Prelude.{Result, Ok, Err, Option, Some, None, codes, if◌then◌else◌}
 use Rattle.std.specs.Str.{bytes_eq}
@@ -19,7 +19,7 @@ use Rattle.unit_registry.specs.Projects.{ProjectView}
 use Rattle.unit_registry.specs.Lines.{Form, Heading, Repository, Entry, Ending, lines_of, head_form, repo_form, named_form, unit_form, form, is_text, declared}
 use Rattle.unit_registry.specs.Drafts.{blank_draft, unit_fault, with_unit, with_repo, with_entry, with_form, with_said, with_line, Leads}
 use Rattle.unit_registry.specs.Grammar.{kind_words, built_words, unit_words, head_words, repo_words, end_words, unit_lines, project_lines, SayLines, MayBeBuilt, CanFollow}
-use Rattle.unit_registry.specs.Readings.{Declares, IsProjectText}
+use Rattle.unit_registry.specs.Readings.{Declares, ReachesEnd}
 use Rattle.unit_registry.proofs.Said.{with_line-said}
 
 -- ---- forms and their words
@@ -50,7 +50,7 @@ abbrev NamedForm : Bool → List ℕ → List ℕ → List ℕ → Form → Type
 NamedForm built verb name ident f =
     (unit : Declared) × (f ≡ Entry unit) × (built_words built (verb ∷ name ∷ ident ∷ []) ≡ unit_words unit) × MayBeBuilt unit.kind unit.built
 
-named_is : (built : Bool) (verb name ident : List ℕ) (f : Form) → named_form built (verb ∷ name ∷ ident ∷ []) 0 1 2 ≡ Some f → NamedForm built verb name ident f
+named_is : (built : Bool) (verb name ident : List ℕ) (f : Form) → named_form built (verb ∷ name ∷ ident ∷ []) 0 ≡ Some f → NamedForm built verb name ident f
 named_is built verb name ident f e = by (bytes_eq verb (codes "module")) (bytes_eq verb (codes "header")) refl refl e
   where
     by : (x y : Bool) → bytes_eq verb (codes "module") ≡ x → bytes_eq verb (codes "header") ≡ y
@@ -73,7 +73,7 @@ unit_is (a ∷ b ∷ []) f e = inr (declared false Plain [] b, search rules, sea
 unit_is (a ∷ b ∷ c ∷ []) f e = inr (named_is false a b c f e)
 unit_is (a ∷ b ∷ c ∷ d ∷ []) f e = by (bytes_eq a (codes "built")) refl e
   where
-    by : (x : Bool) → bytes_eq a (codes "built") ≡ x → (if x then named_form true (b ∷ c ∷ d ∷ []) 0 1 2 else None) ≡ Some f → UnitForm (a ∷ b ∷ c ∷ d ∷ []) f
+    by : (x : Bool) → bytes_eq a (codes "built") ≡ x → (if x then named_form true (b ∷ c ∷ d ∷ []) 0 else None) ≡ Some f → UnitForm (a ∷ b ∷ c ∷ d ∷ []) f
     by true p e =
         let named = named_is true b c d f e in
         let first : a ≡ codes "built" = search rules in
@@ -118,7 +118,7 @@ step draft line next e = by (meaning line) (is_marked line) (says_meaning line) 
 same_draft : (a b : Draft) → (let r : Result Draft ProjectReason = Ok a in r) ≡ Ok b → a ≡ b
 same_draft a b e = cc
 
--- ---- what the lines declare is the text's
+-- ---- where the lines reach the end, the text declares
 
 -- what stands behind `end` says nothing
 over_leads : (lines : List (List ℕ)) (draft last : Draft) → draft.stage ≡ stage.Over → Leads draft lines last → (last ≡ draft) × SayLines lines []
@@ -259,12 +259,12 @@ head_leads (line ∷ lines) draft last u h over = by (step draft line h.0 h.1) (
         let form = head_is said.0 said.1 (subst (λ (s : Stage). form s said.0 ≡ Some said.1) (ap (λ (d : Draft). d.stage) u) said.3) in
         first said.0 said.1 said.2 form.0 form.1 said.4
 
-pub declared_text : (text : List ℕ) (project : ProjectView) → Declares text project → IsProjectText text project
-declared_text text project h =
+pub reached_declares : (text : List ℕ) (project : ProjectView) → ReachesEnd text project → Declares text project
+reached_declares text project h =
     let said = head_leads (lines_of text) blank_draft h.last refl h.good h.over in
-    subst (λ (p : ProjectView). IsProjectText text p) (sym h.declared) (record { lines = said.say; repo = said.text; units = said.follow })
+    subst (λ (p : ProjectView). Declares text p) (sym h.declared) (record { lines = said.say; repo = said.text; units = said.follow })
 
--- ---- what is the text's is declared
+-- ---- where the text declares, the lines reach the end
 
 blank_line : (draft : Draft) (line : List ℕ) → Says line Blank false → with_line draft line ≡ Ok draft
 blank_line draft line s = with_line-said draft line Blank false s
@@ -373,7 +373,7 @@ head_lines (line ∷ lines) project (inr said) text c =
       project_is = rest.project_is;
     }
 
-pub text_declared : (text : List ℕ) (project : ProjectView) → IsProjectText text project → Declares text project
-text_declared text project h =
+pub declared_reaches : (text : List ℕ) (project : ProjectView) → Declares text project → ReachesEnd text project
+declared_reaches text project h =
     let found = head_lines (lines_of text) project h.lines h.repo h.units in
     record { last = found.last; good = found.leads; over = found.over; declared = sym found.project_is }

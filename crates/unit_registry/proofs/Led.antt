@@ -13,7 +13,7 @@ use Rattle.unit_registry.specs.Kept.{IsKept}
 use Rattle.unit_registry.specs.Numbers.{with_number}
 use Rattle.unit_registry.specs.Lines.{Form, Heading, Repository, Entry, Ending, form, is_text, lines_of}
 use Rattle.unit_registry.specs.Drafts.{blank_draft, unit_fault, with_unit, with_repo, with_entry, with_form, with_said, with_line, Leads}
-use Rattle.unit_registry.specs.Readings.{Declares}
+use Rattle.unit_registry.specs.Readings.{ReachesEnd}
 use Rattle.unit_registry.proofs.Keeping.{kept_empty, kept_push, can_follow, idents_differ, names_differ, names_fit}
 
 -- The units are kept with some numbers.
@@ -64,17 +64,17 @@ lines_keep : (draft : Draft) (lines : List (List ℕ)) (last : Draft) → Leads 
 lines_keep draft [] last good has = subst (λ (d : Draft). HasNumbers d.project.units) (sym good) has
 lines_keep draft (line ∷ lines) last good has = lines_keep good.0 lines last good.2 (line_keeps draft line good.0 good.1 has)
 
--- the units of a project that a text declares
-declared_kept : (text : List ℕ) (project : ProjectView) → Declares text project → HasNumbers project.units
-declared_kept text project d =
+-- the units of a project whose end a text reaches
+reached_kept : (text : List ℕ) (project : ProjectView) → ReachesEnd text project → HasNumbers project.units
+reached_kept text project d =
     subst (λ (p : ProjectView). HasNumbers p.units) (sym d.declared)
     (lines_keep blank_draft (lines_of text) d.last d.good (record { names = []; idents = []; kept = kept_empty }))
 
-pub declared_idents : (text : List ℕ) (project : ProjectView) → Declares text project → IdentsDiffer project
-declared_idents text project d = let has = declared_kept text project d in idents_differ project has.names has.idents has.kept
+pub reached_idents : (text : List ℕ) (project : ProjectView) → ReachesEnd text project → IdentsDiffer project
+reached_idents text project d = let has = reached_kept text project d in idents_differ project has.names has.idents has.kept
 
-pub declared_names : (text : List ℕ) (project : ProjectView) → Declares text project → NamesDiffer project
-declared_names text project d = let has = declared_kept text project d in names_differ project has.names has.idents has.kept
+pub reached_names : (text : List ℕ) (project : ProjectView) → ReachesEnd text project → NamesDiffer project
+reached_names text project d = let has = reached_kept text project d in names_differ project has.names has.idents has.kept
 
-pub declared_fit : (text : List ℕ) (project : ProjectView) → Declares text project → NamesFit project
-declared_fit text project d = let has = declared_kept text project d in names_fit project has.names has.idents has.kept
+pub reached_fit : (text : List ℕ) (project : ProjectView) → ReachesEnd text project → NamesFit project
+reached_fit text project d = let has = reached_kept text project d in names_fit project has.names has.idents has.kept

@@ -1,4 +1,4 @@
--- The reading of a text is what it declares, or its first fault.
+-- The reading of a text is the project at whose end it arrives, or its first fault.
 use Rattle.std.proofs.Common.{◌≡◌, ◌≢◌, ℕ, ◌+◌, ◌⊎◌, inl, inr, List, [], ◌∷◌, ◌++◌, length, refl, sym, ap, ◌∙◌, arith}
 use Rattle.std.specs.Prelude.{Result, Ok, Err, IfOk, IfErr}
 use Rattle.std.proofs.lemmas.List.{append-nil}
@@ -12,7 +12,8 @@ use Rattle.unit_registry.specs.Lines.{lines_of}
 use Rattle.unit_registry.specs.Drafts.{blank_draft, with_line, Leads}
 use Rattle.unit_registry.specs.declared.reason.ProjectError.{ProjectError}
 use Rattle.unit_registry.specs.declared.reason.ProjectError.TheVariants.{Text, Memory}
-use Rattle.unit_registry.specs.Readings.{Answers, TellsFault, Fault, Declares, IsFault, ended, goes_on, read_behind, reading}
+use Rattle.unit_registry.specs.Readings.{Answers, TellsFault, Fault, Declares, ReachesEnd, IsFault, ended, goes_on, read_behind, reading}
+use Rattle.unit_registry.proofs.Grammars.{reached_declares}
 
 -- Lines lead from a draft to the end, and this is the project.
 record Ends (draft : Draft) (lines : List (List ℕ)) (project : ProjectView) : Type 0 where
@@ -89,10 +90,10 @@ err_read draft number (line ∷ lines) fault e = by (with_line draft line) refl 
     by (Ok next) t s again = later next t (again next s)
     by (Err reason) t s again = inl (here reason t (same_fault _ _ s))
 
--- a text of which a project is read declares it
-pub declares : (text : List ℕ) (project : ProjectView) → reading text ≡ Ok project → Declares text project
+-- a text of which a project is read reaches its end
+reaches : (text : List ℕ) (project : ProjectView) → reading text ≡ Ok project → ReachesEnd text project
 unfolding reading
-declares text project e =
+reaches text project e =
     let found = ok_read blank_draft 1 (lines_of text) project e in
     record { last = found.last; good = found.good; over = found.over; declared = found.declared }
 
@@ -124,10 +125,10 @@ ended_going draft Repo number n = refl
 ended_going draft Units number n = refl
 ended_going draft Over number n = absurd (n refl)
 
--- a text that declares a project is read as that
-pub reading_declares : (text : List ℕ) (project : ProjectView) → Declares text project → reading text ≡ Ok project
+-- a text that reaches the end of a project is read as that
+pub reading_reaches : (text : List ℕ) (project : ProjectView) → ReachesEnd text project → reading text ≡ Ok project
 unfolding reading
-reading_declares text project d =
+reading_reaches text project d =
     ap (read_behind blank_draft 1) (sym (append-nil (lines_of text)))
     ∙ read_behind-good blank_draft 1 (lines_of text) [] d.last d.good
     ∙ ended_over d.last (1 + length (lines_of text)) d.over
@@ -156,21 +157,21 @@ same_project project other e = cc
 apart : (project : ProjectView) (fault : Fault) → (let r : Result ProjectView Fault = Ok project in r) ≡ Err fault → ⊥
 apart project fault e = cc
 
-pub one_project : (text : List ℕ) (project other : ProjectView) → Declares text project → Declares text other → project ≡ other
-one_project text project other p q = same_project project other (sym (reading_declares text project p) ∙ reading_declares text other q)
+pub one_project : (text : List ℕ) (project other : ProjectView) → ReachesEnd text project → ReachesEnd text other → project ≡ other
+one_project text project other p q = same_project project other (sym (reading_reaches text project p) ∙ reading_reaches text other q)
 
 pub one_fault : (text : List ℕ) (line other : ℕ) (reason why : ProjectReason) → IsFault text line reason → IsFault text other why → (line ≡ other) × (reason ≡ why)
 one_fault text line other reason why p q =
     let same = same_fault (record { line = line; reason = reason }) (record { line = other; reason = why }) (sym (reading_fault text line reason p) ∙ reading_fault text other why q) in
     (ap (λ (f : Fault). f.line) same, ap (λ (f : Fault). f.reason) same)
 
-pub never_both : (text : List ℕ) (project : ProjectView) (line : ℕ) (reason : ProjectReason) → Declares text project → IsFault text line reason → ⊥
-never_both text project line reason p q = apart project (record { line = line; reason = reason }) (sym (reading_declares text project p) ∙ reading_fault text line reason q)
+pub never_both : (text : List ℕ) (project : ProjectView) (line : ℕ) (reason : ProjectReason) → ReachesEnd text project → IsFault text line reason → ⊥
+never_both text project line reason p q = apart project (record { line = line; reason = reason }) (sym (reading_reaches text project p) ∙ reading_fault text line reason q)
 
 -- ---- what an answer tells
 
 pub answer_declares : (text : List ℕ) (answer : Result ProjectView ProjectError) → Answers (reading text) answer → IfOk answer (λ project. Declares text project)
-answer_declares text (Ok project) h = declares text project h
+answer_declares text (Ok project) h = reached_declares text project (reaches text project h)
 answer_declares text (Err error) h = tt
 
 pub answer_tells : (text : List ℕ) (answer : Result ProjectView ProjectError) → Answers (reading text) answer → IfErr answer (λ error. TellsFault text error)

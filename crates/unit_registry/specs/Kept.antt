@@ -8,8 +8,8 @@ use Rattle.unit_registry.specs.Numbers.{number_in}
 -- there are not too many units, each has a name that fits its kind, no two have a name or an ident in common, and the numbers are those of the units
 pub record IsKept (units : List Declared) (names idents : List (List ℕ × ℕ)) : Type 0 where
   pub few : length units ≤ most_units
-  pub fitting : (k : ℕ) (unit : Declared) → slice_get units k ≡ Some unit → fits unit.kind unit.name ≡ true
-  pub by_name : (k : ℕ) (unit : Declared) → slice_get units k ≡ Some unit → 0 < length unit.name → find_by own_name units unit.name ≡ Some k
-  pub by_ident : (k : ℕ) (unit : Declared) → slice_get units k ≡ Some unit → find_by own_ident units unit.ident ≡ Some k
+  pub fitting : (place : ℕ) (unit : Declared) → slice_get units place ≡ Some unit → fits unit.kind unit.name ≡ true
+  pub by_name : (place : ℕ) (unit : Declared) → slice_get units place ≡ Some unit → 0 < length unit.name → find_by own_name units unit.name ≡ Some place
+  pub by_ident : (place : ℕ) (unit : Declared) → slice_get units place ≡ Some unit → find_by own_ident units unit.ident ≡ Some place
   pub name_numbers : (word : List ℕ) → number_in names word ≡ find_by own_name units word
   pub ident_numbers : (word : List ℕ) → number_in idents word ≡ find_by own_ident units word

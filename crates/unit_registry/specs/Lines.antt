@@ -1,8 +1,9 @@
 -- The lines of a project file, and the forms that a line may have.
-use Rattle.std.specs.Prelude.{ℕ, Bool, true, false, not, ◌||◌, ◌&&◌, ◌==◌, nat_lt, nat_le, if◌then◌else◌, List, [], ◌∷◌, length, Option, Some, None, codes}
+use Rattle.std.specs.Prelude.{ℕ, ◌+◌, Bool, true, false, not, ◌&&◌, ◌==◌, nat_le, if◌then◌else◌, List, [], ◌∷◌, length, Option, Some, None, codes}
 use Rattle.std.specs.List.{list_all, onto_first}
 use Rattle.std.specs.Str.{bytes_eq}
 use Rattle.cody_words.specs.Octets.{newline}
+use Rattle.header_units.specs.Octets.{is_path_octet}
 use Rattle.mapper_requests.specs.Requests.{word_at}
 use Rattle.unit_registry.specs.declared.kind.Kind.{Kind}
 use Rattle.unit_registry.specs.declared.kind.Kind.TheVariants as kind
@@ -16,7 +17,7 @@ use Rattle.unit_registry.specs.declared.line.UnitLine.{UnitLine}
 -- the pieces between the NEWLINEs of a text, without a last empty piece
 abbrev pub lines_of : List ℕ → List (List ℕ)
 lines_of [] = []
-lines_of (c ∷ rest) = if c == newline then [] ∷ lines_of rest else onto_first c (lines_of rest)
+lines_of (octet ∷ rest) = if octet == newline then [] ∷ lines_of rest else onto_first octet (lines_of rest)
 
 -- What a line is: the first one, the repository, a unit, or the end.
 pub data Form : Type 0 where
@@ -31,13 +32,13 @@ declared built kind name ident = record { kind = kind; name = name; ident = iden
 
 -- whether the word at a place is this one
 abbrev pub is_word : List (List ℕ) → ℕ → List ℕ → Bool
-is_word words k word = bytes_eq (word_at words k) word
+is_word words place word = bytes_eq (word_at words place) word
 
--- VERB NAME IDENT, from a place on
-abbrev pub named_form : Bool → List (List ℕ) → ℕ → ℕ → ℕ → Option Form
-named_form built words verb name ident =
-    if is_word words verb (codes "module") then Some (Entry (declared built kind.Module (word_at words name) (word_at words ident)))
-    else if is_word words verb (codes "header") then Some (Entry (declared built kind.Header (word_at words name) (word_at words ident)))
+-- `module NAME IDENT` or `header NAME IDENT`, from a place on
+abbrev pub named_form : Bool → List (List ℕ) → ℕ → Option Form
+named_form built words place =
+    if is_word words place (codes "module") then Some (Entry (declared built kind.Module (word_at words (place + 1)) (word_at words (place + 2))))
+    else if is_word words place (codes "header") then Some (Entry (declared built kind.Header (word_at words (place + 1)) (word_at words (place + 2))))
     else None
 
 -- `module NAME IDENT`, `header NAME IDENT`, these behind `built`, `plain IDENT`, or `end`
@@ -45,8 +46,8 @@ abbrev pub unit_form : List (List ℕ) → Option Form
 unit_form words =
     if length words == 1 && is_word words 0 (codes "end") then Some Ending
     else if length words == 2 && is_word words 0 (codes "plain") then Some (Entry (declared false kind.Plain [] (word_at words 1)))
-    else if length words == 3 then named_form false words 0 1 2
-    else if length words == 4 && is_word words 0 (codes "built") then named_form true words 1 2 3
+    else if length words == 3 then named_form false words 0
+    else if length words == 4 && is_word words 0 (codes "built") then named_form true words 1
     else None
 
 -- `modmap-project 1`
@@ -68,17 +69,13 @@ form Repo words = repo_form words
 form Units words = unit_form words
 form Over words = None
 
--- what may stand in a path or an ident: no octet below 0x20, and not 0x7f
-abbrev pub is_text_octet : ℕ → Bool
-is_text_octet c = not (nat_lt c 32 || c == 127)
-
 -- the most octets of a path and of an ident
 abbrev pub longest_text : ℕ
 longest_text = 512
 
--- a path or an ident: not empty, not too long, and of such octets
+-- a path or an ident: not empty, not too long, and of octets that a header name may have
 abbrev pub is_text : List ℕ → Bool
-is_text text = not (length text == 0) && nat_le (length text) longest_text && list_all is_text_octet text
+is_text text = not (length text == 0) && nat_le (length text) longest_text && list_all is_path_octet text
 
 -- a unit as its line lends it
 abbrev pub declared_by : UnitLine → Declared

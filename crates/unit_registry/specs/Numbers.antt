@@ -10,4 +10,4 @@ number_in (entry ∷ entries) word = if bytes_eq word entry.0 then Some entry.1 
 -- with one word more, where it isn't empty
 abbrev pub with_number : List (List ℕ × ℕ) → List ℕ → ℕ → List (List ℕ × ℕ)
 with_number entries [] number = entries
-with_number entries (c ∷ word) number = entries ++ (c ∷ word, number) ∷ []
+with_number entries (first ∷ rest) number = entries ++ (first ∷ rest, number) ∷ []

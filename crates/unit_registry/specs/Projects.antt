@@ -23,27 +23,27 @@ unit_count project = length project.units
 
 -- a unit's name, empty for a plain unit
 abbrev pub name_of : ProjectView → ℕ → List ℕ
-name_of project unit = option_map_or (λ d. d.name) (slice_get project.units unit) []
+name_of project unit = option_map_or (λ entry. entry.name) (slice_get project.units unit) []
 
 -- a unit's ident: the word by which its compiler says who it is
 abbrev pub ident_of : ProjectView → ℕ → List ℕ
-ident_of project unit = option_map_or (λ d. d.ident) (slice_get project.units unit) []
+ident_of project unit = option_map_or (λ entry. entry.ident) (slice_get project.units unit) []
 
 -- a unit's kind
 abbrev pub kind_of : ProjectView → ℕ → Kind
-kind_of project unit = option_map_or (λ d. d.kind) (slice_get project.units unit) Plain
+kind_of project unit = option_map_or (λ entry. entry.kind) (slice_get project.units unit) Plain
 
 -- whether a unit's interface was built before
 abbrev pub is_built : ProjectView → ℕ → Bool
-is_built project unit = option_map_or (λ d. d.built) (slice_get project.units unit) false
+is_built project unit = option_map_or (λ entry. entry.built) (slice_get project.units unit) false
 
 -- whether a unit is one without a name
 abbrev pub is_plain : ProjectView → ℕ → Bool
-is_plain project unit = option_map_or (λ d. is_plain_kind d.kind) (slice_get project.units unit) false
+is_plain project unit = option_map_or (λ entry. is_plain_kind entry.kind) (slice_get project.units unit) false
 
 -- whether a unit is a header unit
 abbrev pub is_header : ProjectView → ℕ → Bool
-is_header project unit = option_map_or (λ d. is_header_kind d.kind) (slice_get project.units unit) false
+is_header project unit = option_map_or (λ entry. is_header_kind entry.kind) (slice_get project.units unit) false
 
 -- whether the word isn't empty, and is this word of a unit
 abbrev pub has_word : (Declared → List ℕ) → List ℕ → Declared → Bool

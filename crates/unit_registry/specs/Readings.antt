@@ -12,8 +12,16 @@ use Rattle.unit_registry.specs.Lines.{lines_of, is_text}
 use Rattle.unit_registry.specs.Grammar.{SayLines, project_lines, CanFollow}
 use Rattle.unit_registry.specs.Drafts.{blank_draft, with_line, Leads}
 
--- The text declares the project: each line is good behind those before it, and `end` was the last that isn't blank.
+-- The text declares the project: its lines, blank ones aside, say the project's, its repository is a text, and each of its
+-- units can follow those before it.
 pub record Declares (text : List ℕ) (project : ProjectView) : Type 0 where
+  pub lines : SayLines (lines_of text) (project_lines project)
+  pub repo : is_text project.repo ≡ true
+  pub units : CanFollow [] project.units
+
+-- The lines of the text, one by one, reach the end of the project: each is good behind those before it, and `end` was the
+-- last that isn't blank. A law says that this is so exactly where the text declares the project.
+pub record ReachesEnd (text : List ℕ) (project : ProjectView) : Type 0 where
   pub last : Draft
   pub good : Leads blank_draft (lines_of text) last
   pub over : last.stage ≡ Over
@@ -69,7 +77,7 @@ abbrev pub read_behind : Draft → ℕ → List (List ℕ) → Result ProjectVie
 read_behind draft number [] = ended draft.stage draft.project number
 read_behind draft number (line ∷ lines) = goes_on (with_line draft line) number (λ next. read_behind next (number + 1) lines)
 
--- the one project or fault of a text, as a function. A law ties it to what the text declares and to its fault
+-- the one project or fault of a text, as a function: what the lines lead to, one by one
 unfoldable pub reading : List ℕ → Result ProjectView Fault
 reading text = read_behind blank_draft 1 (lines_of text)
 
@@ -78,10 +86,3 @@ abbrev pub Answers : Result ProjectView Fault → Result ProjectView ProjectErro
 Answers read (Ok project) = read ≡ Ok project
 Answers read (Err (Text line reason)) = read ≡ Err (record { line = line; reason = reason })
 Answers read (Err Memory) = Unit {0}
-
--- The text is one of the project: its lines are the project's, its repository is a text, and each of its units can follow
--- those before it.
-pub record IsProjectText (text : List ℕ) (project : ProjectView) : Type 0 where
-  pub lines : SayLines (lines_of text) (project_lines project)
-  pub repo : is_text project.repo ≡ true
-  pub units : CanFollow [] project.units

@@ -6,8 +6,9 @@ ghost use Rattle.unit_registry.specs.declared.draft.LineError.TheVariants as err
 use crate::line::{Form, Stage, UnitLine, is_text};
 use crate::project::Project;
 use crate::reason::{ProjectError, ProjectReason};
+use crate::repo_path::RepoPath;
 use cody_words::{LexError, Line, Words, lex_line};
-use mm_outside::{Memory, Text};
+use mm_outside::Memory;
 use std::alloc::Global;
 
 /// What the lines so far declare, and which line may come next.
@@ -27,7 +28,7 @@ pub(crate) enum LineError {
 }
 
 impl From<Memory> for LineError {
-    ghost from_gives = { λ _ e. e ≡ error.Memory };
+    ghost from_gives = { λ _ given. given ≡ error.Memory };
 
     fn from(_memory: Memory) -> LineError {
         LineError::Memory
@@ -113,7 +114,7 @@ impl Draft {
                 reason: ProjectReason::BadText,
             });
         }
-        let repo = Text::of(alloc, path)?;
+        let repo = RepoPath::of(alloc, path)?;
         Ok(Draft {
             stage: Stage::Units,
             project: self.project.with_repo(repo),

@@ -5,8 +5,9 @@
 //! the word `built`. The last is `end`. Units are numbered in the order of their lines, from 0. Blank lines are
 //! ignored, and no line has the mark that more follows. The file, its limits and its refusals are this project's own.
 //!
-//! The forms of lines stand in `specs/Lines.antt`, the faults in `specs/Drafts.antt`, what a text declares in
-//! `specs/Readings.antt`, and the act that a request is in `specs/Acts.antt`.
+//! The grammar of whole files stands in `specs/Grammar.antt`, and what a text declares in `specs/Readings.antt`. The
+//! forms of lines stand in `specs/Lines.antt`, the faults in `specs/Drafts.antt`, and the act that a request is in
+//! `specs/Acts.antt`.
 #![tactic(auto)]
 
 mod act;
@@ -18,11 +19,14 @@ mod numbers;
 mod project;
 mod reader;
 mod reason;
+mod repo_path;
 mod unit;
 
 pub use act::Act;
 pub use kind::Kind;
-pub use laws::{declared_units_differ, found_by_ident, found_by_name, one_reading, project_text};
+pub use laws::{
+    declared_line_by_line, declared_units_differ, found_by_ident, found_by_name, one_reading,
+};
 pub use project::{MOST_UNITS, Project};
 pub use reason::{ProjectError, ProjectReason};
 

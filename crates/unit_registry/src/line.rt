@@ -1,10 +1,11 @@
 //! The forms of a project file's lines.
 
-ghost use Rattle.std.specs.Prelude.{◌≡◌, IfOk};
+ghost use Rattle.std.specs.Prelude.{◌≡◌, ◌≤◌, IfOk};
 ghost use Rattle.std.specs.List.{list_all};
 ghost use Rattle.std.specs.Option.{option_map};
+ghost use Rattle.header_units.specs.Octets.{is_path_octet};
 ghost use Rattle.mapper_requests.specs.Requests.{word_at};
-ghost use Rattle.unit_registry.specs.Lines.{declared_by, form, form_of, head_form, is_text, is_text_octet, is_word, named_form, repo_form, unit_form};
+ghost use Rattle.unit_registry.specs.Lines.{declared_by, form, form_of, head_form, is_text, is_word, named_form, repo_form, unit_form};
 
 use crate::kind::Kind;
 use crate::unit::Declared;
@@ -54,27 +55,32 @@ pub(crate) enum Form<'a> {
     Ending,
 }
 
-/// The word at place `k`, or nothing where there is none.
-fn word_at(words: &Words, k: u32) -> &[u8]
-    ensures { result.now ≡ word_at words.now k }
+/// The word at the place, or nothing where there is none.
+fn word_at(words: &Words, place: u32) -> &[u8]
+    ensures { result.now ≡ word_at words.now place }
 {
-    if k < words.len() { words.word(k) } else { b"" }
+    if place < words.len() {
+        words.word(place)
+    } else {
+        b""
+    }
 }
 
-/// Whether the word at place `k` is this one.
-fn is_word(words: &Words, k: u32, word: &[u8]) -> bool
-    ensures { result ≡ is_word words.now k word.now }
+/// Whether the word at the place is this one.
+fn is_word(words: &Words, place: u32, word: &[u8]) -> bool
+    ensures { result ≡ is_word words.now place word.now }
 {
-    word_at(words, k) == word
+    word_at(words, place) == word
 }
 
-/// The form of words with a verb, a name and an ident at these places.
-fn named_form(built: bool, words: &Words, verb: u32, name: u32, ident: u32) -> Option<Form<'_>>
-    ensures { option_map form_of result ≡ named_form built words.now verb name ident }
+/// The form of `module NAME IDENT` or `header NAME IDENT`, from the place on.
+fn named_form(built: bool, words: &Words, place: u32) -> Option<Form<'_>>
+    requires { place ≤ 1 }
+    ensures { option_map form_of result ≡ named_form built words.now place }
 {
-    let kind = if is_word(words, verb, b"module") {
+    let kind = if is_word(words, place, b"module") {
         Kind::Module
-    } else if is_word(words, verb, b"header") {
+    } else if is_word(words, place, b"header") {
         Kind::Header
     } else {
         return None;
@@ -82,8 +88,8 @@ fn named_form(built: bool, words: &Words, verb: u32, name: u32, ident: u32) -> O
     Some(Form::Entry {
         line: UnitLine {
             kind,
-            name: word_at(words, name),
-            ident: word_at(words, ident),
+            name: word_at(words, place + 1),
+            ident: word_at(words, place + 2),
             built,
         },
     })
@@ -103,8 +109,8 @@ fn unit_form(words: &Words) -> Option<Form<'_>>
                 built: false,
             },
         }),
-        3 => named_form(false, words, 0, 1, 2),
-        4 if is_word(words, 0, b"built") => named_form(true, words, 1, 2, 3),
+        3 => named_form(false, words, 0),
+        4 if is_word(words, 0, b"built") => named_form(true, words, 1),
         _ => None,
     }
 }
@@ -162,9 +168,9 @@ impl Stage {
 
 /// Whether each octet may stand in a path or an ident.
 fn has_text_octets(text: &[u8]) -> bool
-    ensures { result ≡ list_all is_text_octet text.now }
+    ensures { result ≡ list_all is_path_octet text.now }
 {
-    text.iter().all(|octet| !(*octet < b' ' || *octet == 0x7f))
+    text.iter().all(|octet| !octet.is_ascii_control())
 }
 
 /// Whether the octets may be a path or an ident: there are 1 to 512, none below 0x20 and none 0x7f.

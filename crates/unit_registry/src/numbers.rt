@@ -19,7 +19,7 @@ impl Model for Numbers {
 
     ghost Value = { List (List ℕ × ℕ) };
 
-    ghost view = { λ n. map (λ entry. (entry.0.items, entry.1)) n.numbers.entries };
+    ghost view = { λ kept. map (λ entry. (entry.0.items, entry.1)) kept.numbers.entries };
 }
 
 impl Numbers {

@@ -9,9 +9,10 @@ use crate::line::{UnitLine, is_text};
 use crate::numbers::Numbers;
 use crate::reader::read_project;
 use crate::reason::{ProjectError, ProjectReason};
+use crate::repo_path::RepoPath;
 use crate::unit::Declared;
 use mapper_requests::Request;
-use mm_outside::{Memory, Text};
+use mm_outside::Memory;
 use std::alloc::Global;
 use std::marker::Model;
 
@@ -21,7 +22,7 @@ pub const MOST_UNITS: u32 = 16384;
 /// A project. Its units have idents that differ, and those that aren't plain have names that differ.
 #[derive(Debug, Drop)]
 pub struct Project {
-    repo: Text,
+    repo: RepoPath,
     units: Vec<Declared>,
     names: Numbers,
     idents: Numbers,
@@ -33,16 +34,16 @@ impl Model for Project {
 
     ghost Value = { ProjectView };
 
-    ghost view = { λ p. record { repo = p.repo; units = p.units.items } };
+    ghost view = { λ project. record { repo = project.repo; units = project.units.items } };
 
-    ghost invariant = { λ p. IsKept p.units.items p.names p.idents };
+    ghost invariant = { λ project. IsKept project.units.items project.names project.idents };
 }
 
 impl Project {
     ghost use Rattle.mapper_requests.specs.Asked.{asked_by};
     ghost use Rattle.unit_registry.specs.Projects.{most_units, unit_count, name_of, ident_of, kind_of, is_built, is_header, is_plain, find_unit, find_ident, IdentsDiffer, NamesDiffer, NamesFit};
     ghost use Rattle.unit_registry.specs.Drafts.{unit_fault, with_unit, with_repo};
-    ghost use Rattle.unit_registry.specs.Lines.{declared_by};
+    ghost use Rattle.unit_registry.specs.Lines.{declared_by, longest_text};
     ghost use Rattle.unit_registry.specs.Readings.{Declares, TellsFault};
     ghost use Rattle.unit_registry.specs.Acts.{act, hello_of, unit_of};
 
@@ -64,9 +65,10 @@ impl Project {
         self.units.len() as u32
     }
 
-    /// The path of the folder of compiled interfaces.
+    /// The path of the folder of compiled interfaces, of at most 512 octets.
     pub fn workspace_repo(&self) -> &[u8]
-        ensures { result.now ≡ self.now.repo }
+        ensures repo { result.now ≡ self.now.repo }
+        ensures short { length result.now ≤ longest_text }
     {
         self.repo.octets()
     }
@@ -185,7 +187,7 @@ impl Project {
         ensures { result ≡ record { repo = []; units = [] } }
     {
         Project {
-            repo: Text::new(alloc),
+            repo: RepoPath::empty(alloc),
             units: Vec::new(alloc),
             names: Numbers::new(alloc),
             idents: Numbers::new(alloc),
@@ -193,7 +195,7 @@ impl Project {
     }
 
     /// The project with this repository.
-    pub(crate) fn with_repo(self, repo: Text) -> Project
+    pub(crate) fn with_repo(self, repo: RepoPath) -> Project
         ensures { result ≡ with_repo self repo }
     {
         Project {

@@ -1,7 +1,7 @@
 //! Reading a project file, line by line.
 
-ghost use Rattle.std.specs.Prelude.{◌≡◌, ◌≤◌, ◌<◌, ◌∷◌, ◌==◌, length, position, OnSome, IfSome, IfNone};
-ghost use Rattle.std.specs.List.{position_or_len, before_first, after_first};
+ghost use Rattle.std.specs.Prelude.{◌≡◌, ◌≢◌, ◌≤◌, ◌<◌, ◌∷◌, ◌++◌, length, IfSome, IfNone};
+ghost use Rattle.std.specs.List.{All};
 ghost use Rattle.cody_words.specs.Octets.{newline};
 ghost use Rattle.unit_registry.specs.Lines.{lines_of};
 ghost use Rattle.unit_registry.specs.Readings.{Answers, reading};
@@ -9,28 +9,21 @@ ghost use Rattle.unit_registry.specs.Readings.{Answers, reading};
 use crate::draft::{Draft, LineError};
 use crate::project::Project;
 use crate::reason::ProjectError;
+use memchr::memchr;
 use std::alloc::Global;
-
-/// The place of the first NEWLINE, if there is one.
-fn newline_place(octets: &[u8]) -> Option<usize>
-    ensures { result ≡ position (λ c. c == newline) octets.now }
-{
-    octets.iter().position(|octet| *octet == b'\n')
-}
 
 /// What stands before the first NEWLINE, and what stands behind it, if there is one.
 fn cut_at_newline(octets: &[u8]) -> Option<(&[u8], &[u8])>
-    ensures none { IfNone result (length octets.now ≤ position_or_len (λ c. c == newline) octets.now) }
-    ensures found { OnSome result (position_or_len (λ c. c == newline) octets.now < length octets.now) }
-    ensures front { IfSome result (λ parts. parts.0.now ≡ before_first (λ c. c == newline) octets.now) }
-    ensures back { IfSome result (λ parts. parts.1.now ≡ after_first (λ c. c == newline) octets.now) }
+    ensures none { IfNone result (All (λ octet. octet ≢ newline) octets.now) }
+    ensures front { IfSome result (λ parts. All (λ octet. octet ≢ newline) parts.0.now) }
+    ensures whole { IfSome result (λ parts. octets.now ≡ parts.0.now ++ newline ∷ parts.1.now) }
     ensures shorter { IfSome result (λ parts. length parts.1.now < length octets.now) }
 {
-    match newline_place(octets) {
-        Some(at) => {
-            let (front, _) = octets.split_at(at);
-            let (_, back) = octets.split_at(at + 1);
-            Some((front, back))
+    match memchr(b'\n', octets) {
+        Some(place) => {
+            let (line, _) = octets.split_at(place);
+            let (_, behind) = octets.split_at(place + 1);
+            Some((line, behind))
         }
         None => None,
     }

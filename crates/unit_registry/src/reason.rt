@@ -49,7 +49,12 @@ impl ProjectReason {
 pub enum ProjectError {
     /// The first line at fault, counted from 1, and why.
     #[error("the project file is refused")]
-    Text { line: u32, reason: ProjectReason },
+    Text {
+        /// The line's number, from 1. Where the file ends before `end`, it is one more than the number of lines.
+        line: u32,
+        /// Why the line is refused.
+        reason: ProjectReason,
+    },
     /// Memory ran out. This may come for any file.
     #[error("out of memory")]
     Memory,

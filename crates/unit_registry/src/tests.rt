@@ -141,62 +141,54 @@ fn lenient_spellings(rt: HostRuntime) {
     );
 }
 
+/// Texts with the line at which each is at fault, and why.
+const FAULTS_OF_PLACES: [(&[u8], u32, ProjectReason); 9] = [
+    (b"", 1, ProjectReason::NoEnd),
+    (b"\n", 2, ProjectReason::NoEnd),
+    (b"modmap-project 2\n", 1, ProjectReason::Syntax),
+    (b"repo r\n", 1, ProjectReason::Syntax),
+    (b"modmap-project 1\nend\n", 2, ProjectReason::Syntax),
+    (b"modmap-project 1\nrepo ''\n", 2, ProjectReason::BadText),
+    (b"modmap-project 1\r\n", 1, ProjectReason::Words),
+    (b"modmap-project 1 ;\n", 1, ProjectReason::Syntax),
+    (b";\nmodmap-project 1\n", 1, ProjectReason::Syntax),
+];
+
 #[test]
 fn faults_of_places(rt: HostRuntime) {
-    let alloc = rt.alloc();
-    assert!(rt; refuses(alloc, b"", 1, ProjectReason::NoEnd));
-    assert!(rt; refuses(alloc, b"\n", 2, ProjectReason::NoEnd));
-    assert!(rt; refuses(alloc, b"modmap-project 2\n", 1, ProjectReason::Syntax));
-    assert!(rt; refuses(alloc, b"repo r\n", 1, ProjectReason::Syntax));
-    assert!(rt; refuses(alloc, b"modmap-project 1\nend\n", 2, ProjectReason::Syntax));
-    assert!(rt;
-        refuses(
-            alloc,
-            b"modmap-project 1\nrepo ''\n",
-            2,
-            ProjectReason::BadText
-        )
-    );
-    assert!(rt; refuses(alloc, b"modmap-project 1\r\n", 1, ProjectReason::Words));
-    assert!(rt; refuses(alloc, b"modmap-project 1 ;\n", 1, ProjectReason::Syntax));
-    assert!(rt; refuses(alloc, b";\nmodmap-project 1\n", 1, ProjectReason::Syntax));
-    assert!(rt; refuses_units(alloc, b"plain a", 4, ProjectReason::NoEnd));
-    assert!(rt; refuses_units(alloc, b"end\nplain a\n", 4, ProjectReason::Syntax));
-    assert!(rt; refuses_units(alloc, b"end\n\nplain 'a\n", 5, ProjectReason::Words));
-    assert!(rt; refuses_units(alloc, b"built plain a\n", 3, ProjectReason::Syntax));
+    for (text, line, reason) in FAULTS_OF_PLACES {
+        assert!(rt; refuses(rt.alloc(), text, line, reason));
+    }
 }
+
+/// Lines behind a head of two lines, with the line at which each text is at fault, and why.
+const FAULTS_OF_UNITS: [(&[u8], u32, ProjectReason); 11] = [
+    (b"plain a", 4, ProjectReason::NoEnd),
+    (b"end\nplain a\n", 4, ProjectReason::Syntax),
+    (b"end\n\nplain 'a\n", 5, ProjectReason::Words),
+    (b"built plain a\n", 3, ProjectReason::Syntax),
+    (b"module ./a ''\n", 3, ProjectReason::BadText),
+    (b"plain 'a\\7f'", 3, ProjectReason::BadText),
+    (b"module ./a a\n", 3, ProjectReason::BadName),
+    (b"header a a\n", 3, ProjectReason::BadName),
+    (
+        b"module a a.cc\nmodule a c.cc\n",
+        4,
+        ProjectReason::TwiceName,
+    ),
+    (
+        b"module a a.cc\nmodule a a.cc\n",
+        4,
+        ProjectReason::TwiceName,
+    ),
+    (b"module a a.cc\nplain a.cc\n", 4, ProjectReason::TwiceIdent),
+];
 
 #[test]
 fn faults_of_units(rt: HostRuntime) {
-    let alloc = rt.alloc();
-    assert!(rt; refuses_units(alloc, b"module ./a ''\n", 3, ProjectReason::BadText));
-    assert!(rt; refuses_units(alloc, br"plain 'a\7f'", 3, ProjectReason::BadText));
-    assert!(rt; refuses_units(alloc, b"module ./a a\n", 3, ProjectReason::BadName));
-    assert!(rt; refuses_units(alloc, b"header a a\n", 3, ProjectReason::BadName));
-    assert!(rt;
-        refuses_units(
-            alloc,
-            b"module a a.cc\nmodule a c.cc\n",
-            4,
-            ProjectReason::TwiceName
-        )
-    );
-    assert!(rt;
-        refuses_units(
-            alloc,
-            b"module a a.cc\nmodule a a.cc\n",
-            4,
-            ProjectReason::TwiceName
-        )
-    );
-    assert!(rt;
-        refuses_units(
-            alloc,
-            b"module a a.cc\nplain a.cc\n",
-            4,
-            ProjectReason::TwiceIdent
-        )
-    );
+    for (units, line, reason) in FAULTS_OF_UNITS {
+        assert!(rt; refuses_units(rt.alloc(), units, line, reason));
+    }
 }
 
 /// Whether one unit more than a project may have is refused at its line, and one less isn't.
@@ -204,8 +196,8 @@ fn bounds_units(alloc: Global) -> bool {
     let Some(mut text) = text_of(alloc, b"") else {
         return false;
     };
-    for k in 0..MOST_UNITS {
-        if add_unit(&mut text, k).is_none() {
+    for number in 0..MOST_UNITS {
+        if add_unit(&mut text, number).is_none() {
             return false;
         }
     }
@@ -230,155 +222,111 @@ fn most_units(rt: HostRuntime) {
     assert!(rt; bounds_units(rt.alloc()));
 }
 
+/// Hellos of a version, a compiler and an ident, whether an item is handed in, and the unit of the ident.
+const HELLOS: [(u32, &[u8], &[u8], bool, Option<u32>); 3] = [
+    (2, b"c", b"main.cc", true, Some(3)),
+    (1, b"main.cc", b"", false, None),
+    (1, b"a.cc", b"a", false, None),
+];
+
 #[test]
-fn requests_as_acts(rt: HostRuntime) {
-    let alloc = rt.alloc();
-    let name: &[u8] = b"a";
-    let other: &[u8] = b"c";
-    let header: &[u8] = b"./x.h";
-    let ident: &[u8] = b"main.cc";
-    let empty: &[u8] = b"";
-    assert!(rt;
-        acts(
-            alloc,
-            Request::Hello {
-                version: 2,
-                compiler: other,
-                ident
-            },
-            true,
-            Act::Hello {
-                version: 2,
-                unit: Some(3)
-            }
-        )
-    );
-    assert!(rt;
-        acts(
-            alloc,
-            Request::Hello {
-                version: 1,
-                compiler: ident,
-                ident: empty
-            },
-            false,
-            Act::Hello {
-                version: 1,
-                unit: None
-            }
-        )
-    );
-    assert!(rt;
-        acts(
-            alloc,
-            Request::Import { name, flags: 3 },
-            false,
-            Act::Import {
-                unit: Some(0),
-                name_only: true
-            }
-        )
-    );
-    assert!(rt;
-        acts(
-            alloc,
-            Request::Import {
-                name: empty,
-                flags: 2
-            },
-            false,
-            Act::Import {
-                unit: None,
-                name_only: false
-            }
-        )
-    );
-    assert!(rt;
-        acts(
-            alloc,
-            Request::Export {
-                name: header,
-                flags: 1
-            },
-            true,
-            Act::Export { unit: Some(2) }
-        )
-    );
-    assert!(rt;
-        acts(
-            alloc,
-            Request::Compiled { name, flags: 0 },
-            true,
-            Act::Compiled {
-                unit: Some(0),
-                stored: true
-            }
-        )
-    );
-    assert!(rt;
-        acts(
-            alloc,
-            Request::Compiled {
-                name: other,
-                flags: 0
-            },
-            true,
-            Act::Compiled {
-                unit: None,
-                stored: false
-            }
-        )
-    );
-    assert!(rt;
-        acts(
-            alloc,
-            Request::Translate {
-                name: header,
-                flags: 0
-            },
-            false,
-            Act::Translate { header: true }
-        )
-    );
-    assert!(rt;
-        acts(
-            alloc,
-            Request::Translate { name, flags: 0 },
-            false,
-            Act::Translate { header: false }
-        )
-    );
-    assert!(rt; acts(alloc, Request::Repo, true, Act::Repo));
-    assert!(rt;
-        acts(
-            alloc,
-            Request::Bad {
-                why: Bad::WrongWords
-            },
-            false,
-            Act::Bad {
-                why: Bad::WrongWords
-            }
-        )
-    );
+fn hellos_as_acts(rt: HostRuntime) {
+    for (version, compiler, ident, stored, unit) in HELLOS {
+        let request = Request::Hello {
+            version,
+            compiler,
+            ident,
+        };
+        assert!(rt; acts(rt.alloc(), request, stored, Act::Hello { version, unit }));
+    }
 }
+
+/// Imports by name and flags, with the unit of the name and whether only the name is wanted.
+const IMPORTS: [(&[u8], u32, Option<u32>, bool); 3] = [
+    (b"a", 3, Some(0), true),
+    (b"", 2, None, false),
+    (b"./x.h", 0, Some(2), false),
+];
+
+#[test]
+fn imports_as_acts(rt: HostRuntime) {
+    for (name, flags, unit, name_only) in IMPORTS {
+        let request = Request::Import { name, flags };
+        assert!(rt; acts(rt.alloc(), request, false, Act::Import { unit, name_only }));
+    }
+}
+
+/// Names, with their units and whether they are those of header units.
+const NAMES: [(&[u8], Option<u32>, bool); 4] = [
+    (b"a", Some(0), false),
+    (b"./x.h", Some(2), true),
+    (b"c", None, false),
+    (b"", None, false),
+];
+
+#[test]
+fn names_as_acts(rt: HostRuntime) {
+    let alloc = rt.alloc();
+    for (name, unit, header) in NAMES {
+        let export = Request::Export { name, flags: 1 };
+        assert!(rt; acts(alloc, export, true, Act::Export { unit }));
+
+        let stored = unit.is_some();
+        let compiled = Request::Compiled { name, flags: 0 };
+        assert!(rt; acts(alloc, compiled, true, Act::Compiled { unit, stored }));
+
+        let translate = Request::Translate { name, flags: 0 };
+        assert!(rt; acts(alloc, translate, false, Act::Translate { header }));
+    }
+}
+
+/// The requests that have no name, and a report without an item, with their acts.
+const OTHERS: [(Request<'static>, bool, Act); 3] = [
+    (Request::Repo, true, Act::Repo),
+    (
+        Request::Bad {
+            why: Bad::WrongWords,
+        },
+        false,
+        Act::Bad {
+            why: Bad::WrongWords,
+        },
+    ),
+    (
+        Request::Compiled {
+            name: b"a",
+            flags: 0,
+        },
+        false,
+        Act::Compiled {
+            unit: Some(0),
+            stored: false,
+        },
+    ),
+];
+
+#[test]
+fn other_acts(rt: HostRuntime) {
+    for (request, stored, act) in OTHERS {
+        assert!(rt; acts(rt.alloc(), request, stored, act));
+    }
+}
+
+/// The reasons with their texts.
+const REASONS: [(ProjectReason, &[u8]); 8] = [
+    (ProjectReason::Words, b"malformed line"),
+    (ProjectReason::Syntax, b"syntax"),
+    (ProjectReason::BadText, b"bad text"),
+    (ProjectReason::BadName, b"bad name"),
+    (ProjectReason::TwiceName, b"name declared twice"),
+    (ProjectReason::TwiceIdent, b"ident declared twice"),
+    (ProjectReason::TooMany, b"too many units"),
+    (ProjectReason::NoEnd, b"no end"),
+];
 
 #[test]
 fn reason_texts(rt: HostRuntime) {
-    let reasons = [
-        (ProjectReason::Words, b"malformed line".as_slice()),
-        (ProjectReason::Syntax, b"syntax".as_slice()),
-        (ProjectReason::BadText, b"bad text".as_slice()),
-        (ProjectReason::BadName, b"bad name".as_slice()),
-        (ProjectReason::TwiceName, b"name declared twice".as_slice()),
-        (
-            ProjectReason::TwiceIdent,
-            b"ident declared twice".as_slice(),
-        ),
-        (ProjectReason::TooMany, b"too many units".as_slice()),
-        (ProjectReason::NoEnd, b"no end".as_slice()),
-    ];
-    for (reason, text) in reasons {
+    for (reason, text) in REASONS {
         assert!(rt; reason.text() == text);
     }
 }

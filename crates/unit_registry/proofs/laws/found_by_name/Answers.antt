@@ -2,7 +2,7 @@ use Rattle.std.proofs.Common.{[], Option, ap, ◌∙◌}
 use Rattle.std.specs.Option.{option_map_or}
 use Rattle.unit_registry.specs.declared.unit.Declared.{Declared}
 use Rattle.unit_registry.specs.Projects.{own_name}
-use Rattle.unit_registry.proofs.Found.{find_by-within, find_by_at, has_word-same}
+use Rattle.unit_registry.proofs.Found.{find_by-within, find_by_at, find_by-none, find_by-empty, has_word-same}
 use Rattle.unit_registry.proofs.laws.found_by_name.Goals as goal
 
 pub returns-clause-unit : goal.returns-clause-unit
@@ -12,3 +12,9 @@ pub returns-clause-name : goal.returns-clause-name
 returns-clause-name c = λ project name unit e.
     let found = find_by_at own_name project.units name unit e in
     ap (λ (r : Option Declared). option_map_or (λ (d : Declared). d.name) r []) found.at ∙ has_word-same own_name name found.unit found.passes
+
+pub returns-clause-none : goal.returns-clause-none
+returns-clause-none c = λ project name some none unit within. find_by-none own_name project.units name some none unit
+
+pub returns-clause-empty : goal.returns-clause-empty
+returns-clause-empty c = λ project. find_by-empty own_name project.units
