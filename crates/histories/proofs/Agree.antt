@@ -1,8 +1,10 @@
 -- One told to wait whose connection is open has no reply exactly where its unit has not ended.
-use Rattle.std.proofs.Common.{◌≡◌, ◌≢◌, ℕ, zero, suc, ◌≤◌, Bool, true, false, ◌&&◌, ◌==◌, ◌⊎◌, inl, inr, List, [], ◌∷◌, length, fold, reverse, Contains, Option, Some, None, is_some, is_none, refl, sym, ap, subst, ◌∙◌, arith, true≢false, eq-eqb, eqb-true, ne_eqb}
+use Rattle.std.proofs.Common.{◌≡◌, ◌≢◌, ℕ, ◌≤◌, Bool, true, false, ◌&&◌, ◌==◌, ◌⊎◌, inl, inr, List, [], ◌∷◌, length, fold, reverse, Contains, Option, Some, None, is_some, is_none, refl, sym, ap, subst, ◌∙◌, arith, true≢false, eq-eqb, eqb-true, ne_eqb}
 use Rattle.std.proofs.lemmas.Bool.{both_ways, or_parts, or_from, and_parts, and_right, false_from_ne_true, cond-true, cond-false}
 use Rattle.std.proofs.lemmas.List.{length-map, length-reverse}
-use Rattle.std.specs.Prelude.{if◌then◌else◌, option_map, option_and_then, slice_get}
+use Rattle.std.specs.Prelude.{if◌then◌else◌, option_map, option_and_then}
+use Rattle.std.proofs.lemmas.Option.{slice_get_past}
+use Rattle.std.proofs.lemmas.List.Folds.{list_all_at}
 use Rattle.std.specs.List.{list_any, list_all}
 use Rattle.std.specs.Option.{option_map_or, option_or}
 use Rattle.histories.specs.declared.answer.Answer.{Answer}
@@ -18,7 +20,7 @@ use Rattle.histories.specs.Answered.{has_gone, is_open, open_connections, is_pau
 use Rattle.histories.specs.Noted.{Noted, answered_of, is_given_up, fate, answer_by, answer_in, coming_reply, reply_in, ending}
 use Rattle.histories.specs.Answers.{is_taken}
 use Rattle.histories.specs.Histories.{and_then, fault, is_legal_after, noted_of, IsLegal, is_waiting, given_up}
-use Rattle.histories.proofs.Members.{In, In-from_Contains}
+use Rattle.histories.proofs.Members.{In, In-from_Contains, Contains-from_In}
 use Rattle.histories.proofs.WhatIsSaid.{waits_by_import, greeted, IsToldToWait}
 use Rattle.histories.proofs.OneEntry.{HasNotEnded, HasNotEnded-from, none_from_HasNotEnded, stands_at, is_open-parts, is_open-from}
 use Rattle.histories.proofs.Acyclic.{IsKept, answered_entry, noted_entry, kept-more, kept_at_first}
@@ -29,15 +31,19 @@ none_of_some : {A : Type 0} (o : Option A) → is_some o ≡ false → o ≡ Non
 none_of_some None h = refl
 none_of_some (Some x) h = absurd (true≢false h)
 
-pub takes_free : (project : ProjectView) (noted : List Noted) (entry : Entry) (unit : ℕ) → takes unit (answered_entry project noted entry) ≡ true → holder (answered_of noted) unit ≡ None
-takes_free project noted entry unit h = by_hello (accepted_hello (answered_entry project noted entry)) refl h
+-- a unit that is taken with the entry could be taken
+pub takes_untaken : (project : ProjectView) (noted : List Noted) (entry : Entry) (unit : ℕ) → takes unit (answered_entry project noted entry) ≡ true → is_taken project noted unit ≡ false
+takes_untaken project noted entry unit h = by_hello (accepted_hello (answered_entry project noted entry)) refl h
   where
-    by_hello : (o : Option (Option ℕ)) → accepted_hello (answered_entry project noted entry) ≡ o → option_map_or (λ named. names named unit) o false ≡ true → holder (answered_of noted) unit ≡ None
+    by_hello : (o : Option (Option ℕ)) → accepted_hello (answered_entry project noted entry) ≡ o → option_map_or (λ named. names named unit) o false ≡ true → is_taken project noted unit ≡ false
     by_hello None e h = absurd (true≢false (sym h))
     by_hello (Some None) e h = absurd (true≢false (sym h))
     by_hello (Some (Some named)) e h =
-        let free : is_taken project noted unit ≡ false = subst (λ u. is_taken project noted u ≡ false) (eqb-true named unit h) (greeted project noted entry.conn entry.act (Some named) e).1 in
-        none_of_some (holder (answered_of noted) unit) (or_parts _ (is_some (holder (answered_of noted) unit)) free).1
+        subst (λ u. is_taken project noted u ≡ false) (eqb-true named unit h) (greeted project noted entry.conn entry.act (Some named) e).1
+
+pub takes_free : (project : ProjectView) (noted : List Noted) (entry : Entry) (unit : ℕ) → takes unit (answered_entry project noted entry) ≡ true → holder (answered_of noted) unit ≡ None
+takes_free project noted entry unit h =
+    none_of_some (holder (answered_of noted) unit) (or_parts _ (is_some (holder (answered_of noted) unit)) (takes_untaken project noted entry unit h)).1
 
 holder_before : (e : Answered) (answered : List Answered) (unit : ℕ) (b : Bool) → (b ≡ true → holder answered unit ≡ None) → option_map_or (has_gone (e ∷ answered)) (if b then Some e.conn else holder answered unit) false ≡ false → option_map_or (has_gone answered) (holder answered unit) false ≡ false
 holder_before e answered unit true free h =
@@ -59,11 +65,6 @@ not_ended-before project e noted unit free h =
     })
 
 -- no reply stands past the end
-pub slice_get-past : {A : Type 0} → (xs : List A) (k : ℕ) → length xs ≤ k → slice_get xs k ≡ None
-slice_get-past [] k h = refl
-slice_get-past (x ∷ xs) zero h = absurd (omega arith)
-slice_get-past (x ∷ xs) (suc k) h = slice_get-past xs k (omega arith)
-
 pub reply-past : (project : ProjectView) → (noted : List Noted) (place : ℕ) → length noted ≤ place → reply_in project noted place ≡ None
 reply-past project [] place h = refl
 reply-past project (e ∷ noted) place h =
@@ -71,7 +72,7 @@ reply-past project (e ∷ noted) place h =
     let other : place ≢ length noted = λ s. omega arith in
     ap (λ o. option_or o (coming_reply project e noted place)) (reply-past project noted place (omega arith))
     ∙ cond-false _ _ _ (ne_eqb place (length noted) other)
-    ∙ ap (λ o. option_and_then (λ (x : Answered). ending project noted (e ∷ noted) x.conn x.said) o) (slice_get-past (reverse (answered_of noted)) place past)
+    ∙ ap (λ o. option_and_then (λ (x : Answered). ending project noted (e ∷ noted) x.conn x.said) o) (slice_get_past (reverse (answered_of noted)) place past)
 
 -- an entry that is told to wait, by its place
 pub record IsNew (e : Answered) (answered : List Answered) (w : Wait) : Type 0 where
@@ -119,10 +120,9 @@ agreed_old project noted entry given kept agreed w there h =
 
 -- one who is answered with the entry
 all_fails_at : {A : Type 0} (p : A → Bool) (x : A) → p x ≡ false → (xs : List A) → In x xs → list_all p xs ≡ false
-all_fails_at p x fails [] there = absurd there
-all_fails_at p x fails (y ∷ ys) (inl e) =
-    ap (λ b. b && list_all p ys) (ap p e ∙ fails)
-all_fails_at p x fails (y ∷ ys) (inr there) = and_right (p y) (list_all p ys) (all_fails_at p x fails ys there)
+all_fails_at p x fails xs there =
+    let found = Contains-from_In x xs there in
+    list_all_at p xs found.0 x found.1 (ap p found.2 ∙ fails)
 
 no_hello : (said : Said) (unit awaited : ℕ) (hello : Option (Option ℕ)) → said ≡ Waits awaited → option_map_or (λ named. names named unit) (if is_accepted said then hello else None) false ≡ false
 no_hello said unit awaited hello s =

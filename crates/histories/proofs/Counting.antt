@@ -1,6 +1,7 @@
 -- The open connections and the counts with one more entry, and their bounds.
 use Rattle.std.proofs.Common.{◌≡◌, ℕ, ◌+◌, Bool, true, false, cond, not, ◌||◌, ◌&&◌, ◌==◌, inl, inr, List, [], ◌∷◌, length, filter, Some, None, refl, sym, ap, ap₂, subst, ◌∙◌, arith, eq-eqb, ne_eqb}
 use Rattle.std.proofs.lemmas.Bool.{cond-true, cond-false}
+use Rattle.std.proofs.lemmas.List.Elements.{filter_agree}
 use Rattle.std.proofs.lemmas.List.Sums.{sum_by-cons}
 use Rattle.std.specs.List.{cons_option}
 use Rattle.unit_registry.specs.declared.act.Act.{Act}
@@ -62,11 +63,6 @@ of_kind act effect e = record {
 }
 
 -- ---- lists that are filtered
-
-pub filter_alike : {A : Type 0} (p q : A → Bool) → ((x : A) → p x ≡ q x) → (xs : List A) → filter p xs ≡ filter q xs
-filter_alike p q same [] = refl
-filter_alike p q same (x ∷ xs) =
-    ap₂ (λ b ys. cond b (x ∷ ys) ys) (same x) (filter_alike p q same xs)
 
 filter_twice_step : {A : Type 0} (p q : A → Bool) (x : A) (xs : List A) → filter p (filter q xs) ≡ filter (λ y. q y && p y) xs → (b : Bool) → filter p (cond b (x ∷ filter q xs) (filter q xs)) ≡ cond (b && p x) (x ∷ filter (λ y. q y && p y) xs) (filter (λ y. q y && p y) xs)
 filter_twice_step p q x xs ih true = ap (λ ys. cond (p x) (x ∷ ys) ys) ih
@@ -132,18 +128,18 @@ unopened e answered h = ap (λ (b : Bool). cons_option (cond b (Some e.conn) Non
 pub one_opens : (e : Answered) (answered : List Answered) → is_open_act e.act ≡ true → goes e.act ≡ false → has_gone answered e.conn ≡ false → open_connections (e ∷ answered) ≡ e.conn ∷ open_connections answered
 one_opens e answered h stays fresh =
     ap (λ (b : Bool). filter (λ c. not (has_gone (e ∷ answered) c)) (cons_option (cond b (Some e.conn) None) (opened answered))) h
-    ∙ filter_alike (λ c. not (has_gone (e ∷ answered) c)) (λ c. not (has_gone answered c)) (gone_alike e answered stays) (e.conn ∷ opened answered)
+    ∙ filter_agree (λ c. not (has_gone (e ∷ answered) c)) (λ c. not (has_gone answered c)) (gone_alike e answered stays) (e.conn ∷ opened answered)
     ∙ ap (λ b. cond (not b) (e.conn ∷ open_connections answered) (open_connections answered)) fresh
 
 pub one_stays : (e : Answered) (answered : List Answered) → is_open_act e.act ≡ false → goes e.act ≡ false → open_connections (e ∷ answered) ≡ open_connections answered
 one_stays e answered h stays =
     ap (λ xs. filter (λ c. not (has_gone (e ∷ answered) c)) xs) (unopened e answered h)
-    ∙ filter_alike (λ c. not (has_gone (e ∷ answered) c)) (λ c. not (has_gone answered c)) (gone_alike e answered stays) (opened answered)
+    ∙ filter_agree (λ c. not (has_gone (e ∷ answered) c)) (λ c. not (has_gone answered c)) (gone_alike e answered stays) (opened answered)
 
 pub one_goes : (e : Answered) (answered : List Answered) → is_open_act e.act ≡ false → goes e.act ≡ true → open_connections (e ∷ answered) ≡ filter (λ c. not (c == e.conn)) (open_connections answered)
 one_goes e answered h leaves =
     ap (λ xs. filter (λ c. not (has_gone (e ∷ answered) c)) xs) (unopened e answered h)
-    ∙ filter_alike (λ c. not (has_gone (e ∷ answered) c)) (λ c. not (has_gone answered c) && not (c == e.conn)) (gone_with e answered leaves) (opened answered)
+    ∙ filter_agree (λ c. not (has_gone (e ∷ answered) c)) (λ c. not (has_gone answered c) && not (c == e.conn)) (gone_with e answered leaves) (opened answered)
     ∙ sym (filter_twice (λ c. not (c == e.conn)) (λ c. not (has_gone answered c)) (opened answered))
 
 pub one_less : (e : Answered) (answered : List Answered) → IsNumbered answered → is_open_act e.act ≡ false → goes e.act ≡ true → is_open answered e.conn ≡ true → open_count (e ∷ answered) + 1 ≡ open_count answered

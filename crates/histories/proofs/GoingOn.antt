@@ -23,6 +23,7 @@ use Rattle.histories.proofs.Agree.{reply-past, not_ended-before, takes_free}
 use Rattle.histories.proofs.Stalls.{coming_is}
 use Rattle.histories.proofs.WhatIsSaid.{waits_by_import, IsToldToWait}
 use Rattle.histories.proofs.Steps.{IsStanding, agreed-more, stands_open}
+use Rattle.histories.proofs.Legality.{none_is}
 
 pub filter_alike_in : {A : Type 0} (p q : A → Bool) → (xs : List A) → ((x : A) → In x xs → p x ≡ q x) → filter p xs ≡ filter q xs
 filter_alike_in p q [] same = refl
@@ -123,10 +124,6 @@ candidate_cases (Waits unit) place conn ws w (inl same) = inl (ap (λ (x : Wait)
 candidate_cases (Waits unit) place conn ws w (inr there) = inr there
 candidate_cases (Reply answer) place conn ws w there = inr there
 candidate_cases Nothing place conn ws w there = inr there
-
-none_is : {A : Type 0} (o : Option A) → is_none o ≡ true → o ≡ None
-none_is None h = refl
-none_is (Some x) h = absurd (true≢false (sym h))
 
 pub ended_reply : (project : ProjectView) (workers limit : ℕ) (noted : List Noted) (entry : Entry) → IsStanding project noted → is_none (fault project workers limit noted entry) ≡ true → (w : Wait) → In w (candidates project noted entry) → (f : Fate) → fate project (and_then project workers noted entry) w.unit ≡ Some f → reply_in project (and_then project workers noted entry) w.place ≡ Some (answer_by f w.unit)
 ended_reply project workers limit noted entry s passes w there f ended =

@@ -2,7 +2,8 @@
 use Rattle.std.proofs.Common.{◌≡◌, ◌≢◌, ℕ, ◌+◌, ◌<◌, ◌≤◌, Bool, true, false, cond, not, ◌&&◌, ◌==◌, List, [], ◌∷◌, ◌++◌, length, filter, fold, All, Contains, Option, Some, None, is_some, is_none, nat_lt, IsFalse, refl, sym, ap, ap₂, subst, ◌∙◌, arith, true≢false, ne_eqb}
 use Rattle.std.proofs.lemmas.Bool.{and_parts, or_from, and_right, cond-false}
 use Rattle.std.proofs.lemmas.List.{map-id}
-use Rattle.std.proofs.lemmas.List.Elements.{All-nil, All-cons}
+use Rattle.std.proofs.lemmas.List.Elements.{All-nil, All-cons, All-head, All-tail}
+use Rattle.std.proofs.lemmas.List.Sums.{sum_by-cons}
 use Rattle.std.proofs.lemmas.List.FromFn.{sum_by-map-range_with_len_more}
 use Rattle.std.specs.Prelude.{if◌then◌else◌, count_by, ◌↔◌}
 use Rattle.std.specs.List.{cons_option, range_with_len}
@@ -20,12 +21,12 @@ use Rattle.histories.specs.Counts.{effect_of, ChangesOpened, ChangesOpen, Change
 use Rattle.histories.proofs.Members.{In, In-from_Contains, Contains-from_In}
 use Rattle.histories.proofs.OneEntry.{opened_in, is_open-parts}
 use Rattle.histories.proofs.Acyclic.{answered_entry}
-use Rattle.histories.proofs.Legality.{noted_push, length-noted_of, legal_prefix, legal_last}
+use Rattle.histories.proofs.Legality.{noted_more, noted_push, length-noted_of, legal_prefix, legal_last}
 use Rattle.histories.proofs.Stalls.{in_open, open_in}
 use Rattle.histories.proofs.Steps.{IsStanding, standing, standing-more, standing_first, opens_next, stands_open}
 use Rattle.histories.proofs.GoingOn.{filter_alike_in}
-use Rattle.histories.proofs.Counting.{of_kind, opened_count-more}
-use Rattle.histories.proofs.Passing.{checks, Stands, more, HasWorkers, fresh, changes_opened, changes_open, changes_done, changes_reserved, changes_own, workers-more}
+use Rattle.histories.proofs.Counting.{of_kind, opened_count-more, done_count-more}
+use Rattle.histories.proofs.Passing.{checks, Stands, more, HasWorkers, fresh, changes_opened, changes_open, changes_done, changes_reserved, changes_own, workers-more, other_open}
 
 -- ---- along a legal history
 
@@ -229,3 +230,40 @@ open_members answered conn = (
   λ there. open_in answered conn (In-from_Contains conn (open_connections answered) there),
   λ is_there. Contains-from_In conn (open_connections answered) (in_open answered conn is_there),
 )
+
+-- ---- the counts over the entries themselves
+
+counted_after : (project : ProjectView) (workers : ℕ) (test : Act → Bool) (count : List Answered → ℕ) → ((newest : Answered) (before : List Answered) → count (newest ∷ before) ≡ count before + cond (test newest.act) 1 0) → (entries : List Entry) (noted : List Noted) → count (answered_of (fold (and_then project workers) noted entries)) ≡ count (answered_of noted) + count_by (λ entry. test entry.act) entries
+counted_after project workers test count one_more [] noted =
+    let none : count_by (λ (entry : Entry). test entry.act) [] ≡ 0 = refl in
+    omega arith
+counted_after project workers test count one_more (entry ∷ entries) noted =
+    let one = one_more (answered_entry project noted entry) (answered_of noted) in
+    let rest = counted_after project workers test count one_more entries (and_then project workers noted entry) in
+    let split : count_by (λ (x : Entry). test x.act) (entry ∷ entries) ≡ cond (test entry.act) 1 0 + count_by (λ (x : Entry). test x.act) entries = sum_by-cons (λ (x : Entry). cond (test x.act) 1 0) entry entries in
+    omega arith
+
+pub opened_over : (project : ProjectView) (workers : ℕ) (history : List Entry) → opened_count (answered_in project workers history) ≡ count_by (λ entry. is_open_act entry.act) history
+opened_over project workers history =
+    let start : opened_count (answered_of []) ≡ 0 = refl in
+    let all = counted_after project workers is_open_act opened_count opened_count-more history [] in
+    omega arith
+
+pub done_over : (project : ProjectView) (workers : ℕ) (history : List Entry) → done_count (answered_in project workers history) ≡ count_by (λ entry. is_done entry.act) history
+done_over project workers history =
+    let start : done_count (answered_of []) ≡ 0 = refl in
+    let all = counted_after project workers is_done done_count done_count-more history [] in
+    omega arith
+
+-- ---- entries of other connections
+
+open_since_after : (project : ProjectView) (workers conn : ℕ) → (more : List Entry) (noted : List Noted) → All (λ entry. entry.conn ≢ conn) more → is_open (answered_of (fold (and_then project workers) noted more)) conn ≡ is_open (answered_of noted) conn
+open_since_after project workers conn [] noted others = refl
+open_since_after project workers conn (entry ∷ more) noted others =
+    open_since_after project workers conn more (and_then project workers noted entry) (All-tail (λ (x : Entry). x.conn ≢ conn) entry more others)
+    ∙ other_open (answered_entry project noted entry) (answered_of noted) conn (All-head (λ (x : Entry). x.conn ≢ conn) entry more others)
+
+pub open_since : (project : ProjectView) (workers : ℕ) (history more : List Entry) (conn : ℕ) → All (λ entry. entry.conn ≢ conn) more → is_open (answered_in project workers (history ++ more)) conn ≡ is_open (answered_in project workers history) conn
+open_since project workers history more conn others =
+    ap (λ noted. is_open (answered_of noted) conn) (noted_more project workers history more)
+    ∙ open_since_after project workers conn more (noted_of project workers history) others

@@ -14,3 +14,5 @@ pub mod Passing
 pub mod LegalCounts
 pub mod Coming
 pub mod ReplyLaws
+pub mod NoReply
+pub mod Reports

@@ -1,8 +1,9 @@
 -- Membership by recursion on the list, beside std's `Contains`, and what filters keep.
-use Rattle.std.proofs.Common.{◌≡◌, ◌⊎◌, ℕ, zero, suc, ◌<◌, Bool, true, false, cond, inl, inr, List, [], ◌∷◌, ◌++◌, reverse, length, map, filter, filter_map, get_or, Contains, Option, Some, None, refl, sym, ap, subst, ◌∙◌, arith, true≢false}
-use Rattle.std.proofs.lemmas.Bool.{or_cases, or_left, or_right, both_ways}
+use Rattle.std.proofs.Common.{◌≡◌, ◌⊎◌, ℕ, zero, suc, ◌<◌, Bool, true, inl, inr, List, [], ◌∷◌, ◌++◌, reverse, length, map, filter, filter_map, get_or, Contains, Option, Some, None, refl, sym, ap, subst, ◌∙◌, arith}
 use Rattle.std.proofs.lemmas.List.{reverse-append}
+use Rattle.std.proofs.lemmas.List.Elements.{Contains-append_left, Contains-append_right}
 use Rattle.std.specs.List.{list_any, cons_option}
+use Rattle.wait_graph.proofs.Members.{Contains-filter, Contains-filter_from, any_to as any_contained, any_from as any_of_contained}
 
 -- the element stands in the list
 abbrev pub In : {A : Type 0} → A → List A → Type 0
@@ -23,40 +24,21 @@ Contains-from_In x (y ∷ ys) (inl e) = (0, omega arith, e)
 Contains-from_In x (y ∷ ys) (inr h) = let r = Contains-from_In x ys h in (suc r.0, omega arith, r.2)
 
 -- what a filter keeps
-In-filter_step : {A : Type 0} (p : A → Bool) (x y : A) (ys : List A) → (In x (filter p ys) → In x ys × (p x ≡ true)) → (b : Bool) → p y ≡ b → In x (cond b (y ∷ filter p ys) (filter p ys)) → In x (y ∷ ys) × (p x ≡ true)
-In-filter_step p x y ys ih true e (inl r) = (inl r, subst (λ z. p z ≡ true) r e)
-In-filter_step p x y ys ih true e (inr h) = (inr (ih h).0, (ih h).1)
-In-filter_step p x y ys ih false e h = (inr (ih h).0, (ih h).1)
-
 pub In-filter : {A : Type 0} (p : A → Bool) (x : A) → (xs : List A) → In x (filter p xs) → In x xs × (p x ≡ true)
-In-filter p x [] h = absurd h
-In-filter p x (y ∷ ys) h = In-filter_step p x y ys (In-filter p x ys) (p y) refl h
-
-kept_step : {A : Type 0} (p : A → Bool) (x y : A) (ys : List A) → p x ≡ true → (In x ys → In x (filter p ys)) → (b : Bool) → p y ≡ b → In x (y ∷ ys) → In x (cond b (y ∷ filter p ys) (filter p ys))
-kept_step p x y ys passes ih true e (inl r) = inl r
-kept_step p x y ys passes ih true e (inr h) = inr (ih h)
-kept_step p x y ys passes ih false e (inl r) =
-    absurd (both_ways (p x) (subst (λ z. p z ≡ false) r e) passes)
-kept_step p x y ys passes ih false e (inr h) = ih h
+In-filter p x xs h =
+    let kept = Contains-filter p x xs (Contains-from_In x (filter p xs) h) in
+    (In-from_Contains x xs kept.0, kept.1)
 
 pub In-filter_from : {A : Type 0} (p : A → Bool) (x : A) → p x ≡ true → (xs : List A) → In x xs → In x (filter p xs)
-In-filter_from p x passes [] h = absurd h
-In-filter_from p x passes (y ∷ ys) h = kept_step p x y ys passes (In-filter_from p x passes ys) (p y) refl h
+In-filter_from p x passes xs h =
+    In-from_Contains x (filter p xs) (Contains-filter_from p x passes xs (Contains-from_In x xs h))
 
 -- a test of some element
 pub any_to : {A : Type 0} (p : A → Bool) → (xs : List A) → list_any p xs ≡ true → (x : A) × In x xs × (p x ≡ true)
-any_to p [] h = absurd (true≢false (sym h))
-any_to p (y ∷ ys) h =
-    elim (or_cases (p y) (list_any p ys) h) [
-      | inl here ↦ (y, inl refl, here)
-      | inr there ↦ (let r = any_to p ys there in (r.0, inr r.1, r.2))
-    ]
+any_to p xs h = let found = any_contained p xs h in (found.0, In-from_Contains found.0 xs found.1, found.2)
 
 pub any_from : {A : Type 0} (p : A → Bool) (x : A) → p x ≡ true → (xs : List A) → In x xs → list_any p xs ≡ true
-any_from p x passes [] h = absurd h
-any_from p x passes (y ∷ ys) (inl e) =
-    or_left (p y) (list_any p ys) (subst (λ z. p z ≡ true) (sym e) passes)
-any_from p x passes (y ∷ ys) (inr h) = or_right (p y) (list_any p ys) (any_from p x passes ys h)
+any_from p x passes xs h = any_of_contained p x passes xs (Contains-from_In x xs h)
 
 -- what `filter_map` gives
 In-filter_map_step : {A B : Type 0} (h : A → Option B) (z : B) (y : A) (ys : List A) → (In z (filter_map h ys) → (x : A) × In x ys × (h x ≡ Some z)) → (o : Option B) → h y ≡ o → In z (cons_option o (filter_map h ys)) → (x : A) × In x (y ∷ ys) × (h x ≡ Some z)
@@ -94,16 +76,11 @@ In-map_from f x (y ∷ ys) (inl e) = inl (ap f e)
 In-map_from f x (y ∷ ys) (inr h) = inr (In-map_from f x ys h)
 
 -- the same list, backwards
-In-append_left : {A : Type 0} (x : A) → (xs ys : List A) → In x xs → In x (xs ++ ys)
-In-append_left x [] ys h = absurd h
-In-append_left x (z ∷ xs) ys (inl e) = inl e
-In-append_left x (z ∷ xs) ys (inr h) = inr (In-append_left x xs ys h)
-
-In-append_right : {A : Type 0} (x : A) → (xs ys : List A) → In x ys → In x (xs ++ ys)
-In-append_right x [] ys h = h
-In-append_right x (z ∷ xs) ys h = inr (In-append_right x xs ys h)
+backwards : {A : Type 0} (x y : A) (ys : List A) → Contains (reverse ys ++ y ∷ []) x → In x (reverse (y ∷ ys))
+backwards x y ys there =
+    subst (λ zs. In x zs) (sym (reverse-append (y ∷ []) ys)) (In-from_Contains x (reverse ys ++ y ∷ []) there)
 
 pub In-reverse : {A : Type 0} (x : A) → (xs : List A) → In x xs → In x (reverse xs)
 In-reverse x [] h = absurd h
-In-reverse x (y ∷ ys) (inl e) = subst (λ zs. In x zs) (sym (reverse-append (y ∷ []) ys)) (In-append_right x (reverse ys) (y ∷ []) (inl e))
-In-reverse x (y ∷ ys) (inr h) = subst (λ zs. In x zs) (sym (reverse-append (y ∷ []) ys)) (In-append_left x (reverse ys) (y ∷ []) (In-reverse x ys h))
+In-reverse x (y ∷ ys) (inl e) = backwards x y ys (Contains-append_right (reverse ys) (y ∷ []) x (0, omega arith, e))
+In-reverse x (y ∷ ys) (inr h) = backwards x y ys (Contains-append_left (reverse ys) (y ∷ []) x (Contains-from_In x (reverse ys) (In-reverse x ys h)))

@@ -136,6 +136,13 @@ holder_goes : Replays four_units 3 40
     2 0
 holder_goes = record { legal = refl; coming = refl; still_open = refl; waiting = refl }
 
+-- an import whose connection has left before its unit is compiled never has a reply
+left_before_compiled : Replays four_units 2 40
+    (by 0 Open ∷ by 0 (hello 0) ∷ by 0 (importing 1) ∷ by 0 Left ∷ by 1 Open ∷ by 1 (hello 1) ∷ by 1 (exporting 1) ∷ by 1 (compiling 1) ∷ [])
+    ([] ∷ ((1, Greeting) ∷ []) ∷ [] ∷ [] ∷ [] ∷ ((5, Greeting) ∷ []) ∷ ((6, Path 1) ∷ []) ∷ ((7, Accepted) ∷ []) ∷ [])
+    1 0
+left_before_compiled = record { legal = refl; coming = refl; still_open = refl; waiting = refl }
+
 -- where the one connection waits for a unit that nobody holds, the unit is given up
 stall_gives_up : Replays four_units 1 65536
     (by 0 Open ∷ by 0 (hello 0) ∷ by 0 (importing 1) ∷ by 0 Pause ∷ by 0 Left ∷ last_done ∷ [])

@@ -1,5 +1,6 @@
 -- A reply that has come stays.
-use Rattle.std.proofs.Common.{◌≡◌, ℕ, List, [], ◌∷◌, ◌++◌, refl, ap, ◌∙◌}
+use Rattle.std.proofs.Common.{◌≡◌, ℕ, List, [], ◌∷◌, ◌++◌, ap, ◌∙◌}
+use Rattle.std.proofs.lemmas.List.Sums.{fold-append}
 use Rattle.std.specs.Prelude.{Option, Some, fold}
 use Rattle.std.specs.Option.{option_or}
 use Rattle.histories.specs.declared.entry.Entry.{Entry}
@@ -7,10 +8,6 @@ use Rattle.histories.specs.declared.answer.Answer.{Answer}
 use Rattle.unit_registry.specs.Projects.{ProjectView}
 use Rattle.histories.specs.Noted.{Noted, reply_in}
 use Rattle.histories.specs.Histories.{noted_of, and_then, reply}
-
-fold-append : {A B : Type 0} (f : B → A → B) → (start : B) (xs ys : List A) → fold f start (xs ++ ys) ≡ fold f (fold f start xs) ys
-fold-append f start [] ys = refl
-fold-append f start (x ∷ xs) ys = fold-append f (f start x) xs ys
 
 option_or-some : {A : Type 0} → (o p : Option A) (x : A) → o ≡ Some x → option_or o p ≡ Some x
 option_or-some o p x e = ap (λ q. option_or q p) e

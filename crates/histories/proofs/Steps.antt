@@ -5,12 +5,13 @@ use Rattle.std.specs.Prelude.{if◌then◌else◌}
 use Rattle.std.specs.List.{cons_option}
 use Rattle.std.specs.Option.{option_map_or}
 use Rattle.unit_registry.specs.declared.act.Act.{Act}
+use Rattle.unit_registry.specs.declared.act.Act.TheVariants.{Left, Lost}
 use Rattle.histories.specs.declared.entry.Entry.{Entry}
 use Rattle.histories.specs.declared.answer.Said.{Said}
 use Rattle.histories.specs.declared.answered.Answered.{Answered}
 use Rattle.histories.specs.declared.standing.Who.TheVariants.{Holder}
 use Rattle.histories.specs.declared.illegal_reason.IllegalReason.{IllegalReason}
-use Rattle.histories.specs.declared.illegal_reason.IllegalReason.TheVariants.{OutOfOrder, NotOpen}
+use Rattle.histories.specs.declared.illegal_reason.IllegalReason.TheVariants.{OutOfOrder}
 use Rattle.unit_registry.specs.Acts.{names, is_open_act, is_done, goes}
 use Rattle.unit_registry.specs.Projects.{ProjectView}
 use Rattle.histories.specs.Answered.{has_gone, is_open, opened, opened_count, who, who_by, accepted_hello, takes, holder}
@@ -18,7 +19,7 @@ use Rattle.histories.specs.Noted.{Noted, answered_of}
 use Rattle.histories.specs.Histories.{and_then, fault, is_legal_after, noted_of, IsLegal}
 use Rattle.histories.proofs.Members.{In}
 use Rattle.histories.proofs.OneEntry.{is_open-parts}
-use Rattle.histories.proofs.Acyclic.{IsKept, answered_entry, kept-more, kept_at_first}
+use Rattle.histories.proofs.Acyclic.{IsKept, answered_entry, is_open_by, kept-more, kept_at_first}
 use Rattle.histories.proofs.Agree.{Agreed, agreed_old, agreed_new, new_or_old, takes_free}
 
 -- whoever holds a unit is its holder
@@ -30,7 +31,7 @@ holder_named None unit h = absurd (cc)
 holder_named (Some None) unit h = absurd (cc)
 holder_named (Some (Some u)) unit h = let s : u ≡ unit = cc in eq-eqb u unit s
 
-known-more : (project : ProjectView) (noted : List Noted) (entry : Entry) → IsKnown (answered_of noted) → IsKnown (answered_entry project noted entry ∷ answered_of noted)
+pub known-more : (project : ProjectView) (noted : List Noted) (entry : Entry) → IsKnown (answered_of noted) → IsKnown (answered_entry project noted entry ∷ answered_of noted)
 known-more project noted entry known unit conn h = by (entry.conn == conn && is_some (accepted_hello e)) refl h
   where
     e : Answered
@@ -57,30 +58,24 @@ pub record IsNumbered (answered : List Answered) : Type 0 where
   pub gone_below : (conn : ℕ) → has_gone answered conn ≡ true → conn < opened_count answered
   pub once : Distinct (opened answered)
 
-first_checks : (a b : Bool) (rest : Option IllegalReason) → is_none (if a then Some OutOfOrder else (if b then Some NotOpen else rest)) ≡ true → (a ≡ false) × (b ≡ false)
-first_checks true b rest h = absurd (true≢false (sym h))
-first_checks false true rest h = absurd (true≢false (sym h))
-first_checks false false rest h = (refl, refl)
+first_check : (a : Bool) (rest : Option IllegalReason) → is_none (if a then Some OutOfOrder else rest) ≡ true → a ≡ false
+first_check true rest h = absurd (true≢false (sym h))
+first_check false rest h = refl
 
 pub opens_next : (project : ProjectView) (workers limit : ℕ) (noted : List Noted) (entry : Entry) → is_none (fault project workers limit noted entry) ≡ true → is_open_act entry.act ≡ true → entry.conn ≡ opened_count (answered_of noted)
 opens_next project workers limit noted entry passes is_open_now =
-    by (entry.conn == opened_count (answered_of noted)) refl (sym (ap (λ a. a && not (entry.conn == opened_count (answered_of noted))) is_open_now) ∙ (first_checks (is_open_act entry.act && not (entry.conn == opened_count (answered_of noted))) (not (is_open_act entry.act || is_done entry.act) && not (is_open (answered_of noted) entry.conn)) _ passes).0)
+    by (entry.conn == opened_count (answered_of noted)) refl (sym (ap (λ a. a && not (entry.conn == opened_count (answered_of noted))) is_open_now) ∙ first_check (is_open_act entry.act && not (entry.conn == opened_count (answered_of noted))) _ passes)
   where
     by : (b : Bool) → (entry.conn == opened_count (answered_of noted)) ≡ b → not b ≡ false → entry.conn ≡ opened_count (answered_of noted)
     by true e h = eqb-true _ _ e
     by false e h = absurd (true≢false h)
 
 pub stands_open : (project : ProjectView) (workers limit : ℕ) (noted : List Noted) (entry : Entry) → is_none (fault project workers limit noted entry) ≡ true → (is_open_act entry.act || is_done entry.act) ≡ false → is_open (answered_of noted) entry.conn ≡ true
-stands_open project workers limit noted entry passes other =
-    by (is_open (answered_of noted) entry.conn) (sym (ap (λ a. not a && not (is_open (answered_of noted) entry.conn)) other) ∙ (first_checks (is_open_act entry.act && not (entry.conn == opened_count (answered_of noted))) (not (is_open_act entry.act || is_done entry.act) && not (is_open (answered_of noted) entry.conn)) _ passes).1)
-  where
-    by : (b : Bool) → not b ≡ false → b ≡ true
-    by true h = refl
-    by false h = absurd (true≢false h)
+stands_open project workers limit noted entry passes other = is_open_by project workers limit noted entry other passes
 
 goes_other : (act : Act) → goes act ≡ true → (is_open_act act || is_done act) ≡ false
-goes_other Rattle.unit_registry.specs.declared.act.Act.TheVariants.Left h = refl
-goes_other Rattle.unit_registry.specs.declared.act.Act.TheVariants.Lost h = refl
+goes_other Left h = refl
+goes_other Lost h = refl
 goes_other act h = absurd (true≢false (sym h))
 
 numbered-more : (project : ProjectView) (workers limit : ℕ) (noted : List Noted) (entry : Entry) (said : Said) → is_none (fault project workers limit noted entry) ≡ true → IsNumbered (answered_of noted) → IsNumbered (record { conn = entry.conn; act = entry.act; said = said } ∷ answered_of noted)

@@ -10,6 +10,8 @@ use Rattle.histories.specs.declared.answered.Answered.{Answered}
 use Rattle.histories.specs.declared.answered.Wait.{Wait}
 use Rattle.histories.specs.declared.standing.Who.{Who}
 use Rattle.histories.specs.declared.standing.Who.TheVariants.{Nobody, Guest, Holder}
+use Rattle.unit_registry.specs.declared.act.Act.{Act}
+use Rattle.unit_registry.specs.declared.act.Act.TheVariants.{Compiled}
 use Rattle.unit_registry.specs.Acts.{is_open_act, is_pause, is_done, goes, hello_of, names, is_export_of, is_compiled_of}
 
 -- an answer that is no refusal
@@ -24,11 +26,11 @@ is_accepted _ = false
 
 -- whether the connection has left or was lost
 abbrev pub has_gone : List Answered → ℕ → Bool
-has_gone answered conn = list_any (λ e. e.conn == conn && goes e.act) answered
+has_gone answered conn = list_any (λ entry. entry.conn == conn && goes entry.act) answered
 
 -- whether the connection was opened
 abbrev pub was_opened : List Answered → ℕ → Bool
-was_opened answered conn = list_any (λ e. e.conn == conn && is_open_act e.act) answered
+was_opened answered conn = list_any (λ entry. entry.conn == conn && is_open_act entry.act) answered
 
 -- whether it was opened and has not gone
 abbrev pub is_open : List Answered → ℕ → Bool
@@ -36,7 +38,7 @@ is_open answered conn = was_opened answered conn && not (has_gone answered conn)
 
 -- the connection that opens with the entry
 abbrev pub opening : Answered → Option ℕ
-opening e = if is_open_act e.act then Some e.conn else None
+opening entry = if is_open_act entry.act then Some entry.conn else None
 
 -- the connections that were opened, the newest first
 abbrev pub opened : List Answered → List ℕ
@@ -44,7 +46,7 @@ opened answered = filter_map opening answered
 
 -- those of them that are open
 abbrev pub open_connections : List Answered → List ℕ
-open_connections answered = filter (λ c. not (has_gone answered c)) (opened answered)
+open_connections answered = filter (λ conn. not (has_gone answered conn)) (opened answered)
 
 -- how many connections were opened
 abbrev pub opened_count : List Answered → ℕ
@@ -52,7 +54,7 @@ opened_count answered = length (opened answered)
 
 -- how many workers are done
 abbrev pub done_count : List Answered → ℕ
-done_count answered = count_by (λ e. is_done e.act) answered
+done_count answered = count_by (λ entry. is_done entry.act) answered
 
 -- how many connections are open
 abbrev pub open_count : List Answered → ℕ
@@ -65,11 +67,11 @@ reserved workers answered = open_count answered + workers - done_count answered
 -- whether the connection's last act is a Pause
 abbrev pub is_paused : List Answered → ℕ → Bool
 is_paused [] conn = false
-is_paused (e ∷ answered) conn = if e.conn == conn then is_pause e.act else is_paused answered conn
+is_paused (newest ∷ before) conn = if newest.conn == conn then is_pause newest.act else is_paused before conn
 
 -- the unit of a Hello that was accepted
 abbrev pub accepted_hello : Answered → Option (Option ℕ)
-accepted_hello e = if is_accepted e.said then hello_of e.act else None
+accepted_hello entry = if is_accepted entry.said then hello_of entry.act else None
 
 -- who one is by the unit of an accepted Hello
 abbrev pub who_by : Option (Option ℕ) → Who
@@ -80,17 +82,17 @@ who_by (Some (Some unit)) = Holder unit
 -- who the connection is, by its Hello that was accepted
 abbrev pub who : List Answered → ℕ → Who
 who [] conn = Nobody
-who (e ∷ answered) conn =
-    if e.conn == conn && is_some (accepted_hello e) then who_by (accepted_hello e) else who answered conn
+who (newest ∷ before) conn =
+    if newest.conn == conn && is_some (accepted_hello newest) then who_by (accepted_hello newest) else who before conn
 
 -- whether the entry is an accepted Hello of the unit
 abbrev pub takes : ℕ → Answered → Bool
-takes unit e = option_map_or (λ named. names named unit) (accepted_hello e) false
+takes unit entry = option_map_or (λ named. names named unit) (accepted_hello entry) false
 
 -- the connection whose Hello took the unit
 abbrev pub holder : List Answered → ℕ → Option ℕ
 holder [] unit = None
-holder (e ∷ answered) unit = if takes unit e then Some e.conn else holder answered unit
+holder (newest ∷ before) unit = if takes unit newest then Some newest.conn else holder before unit
 
 -- whether the connection that took the unit has gone
 abbrev pub is_left : List Answered → ℕ → Bool
@@ -98,11 +100,24 @@ is_left answered unit = option_map_or (has_gone answered) (holder answered unit)
 
 -- whether an Export of the unit was accepted
 abbrev pub is_exported : List Answered → ℕ → Bool
-is_exported answered unit = list_any (λ e. is_accepted e.said && is_export_of unit e.act) answered
+is_exported answered unit = list_any (λ entry. is_accepted entry.said && is_export_of unit entry.act) answered
 
 -- whether a Compiled of the unit was accepted
 abbrev pub is_reported : List Answered → ℕ → Bool
-is_reported answered unit = list_any (λ e. is_accepted e.said && is_compiled_of unit e.act) answered
+is_reported answered unit = list_any (λ entry. is_accepted entry.said && is_compiled_of unit entry.act) answered
+
+-- the unit of a Compiled with which an item was handed in
+abbrev pub stored_unit : Act → Option ℕ
+stored_unit (Compiled unit true) = unit
+stored_unit _ = None
+
+-- whether the entry is a Compiled of the unit that came with an item and was accepted
+abbrev pub stores : ℕ → Answered → Bool
+stores unit entry = is_accepted entry.said && names (stored_unit entry.act) unit
+
+-- whether a Compiled of the unit that came with an item was accepted
+abbrev pub is_stored : List Answered → ℕ → Bool
+is_stored answered unit = list_any (stores unit) answered
 
 -- these waits, with the one that is told with the entry
 abbrev pub wait_of : Said → ℕ → ℕ → List Wait → List Wait
@@ -112,4 +127,4 @@ wait_of _ place conn waits = waits
 -- the imports that were told to wait
 abbrev pub told_to_wait : List Answered → List Wait
 told_to_wait [] = []
-told_to_wait (e ∷ answered) = wait_of e.said (length answered) e.conn (told_to_wait answered)
+told_to_wait (newest ∷ before) = wait_of newest.said (length before) newest.conn (told_to_wait before)

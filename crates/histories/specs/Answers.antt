@@ -1,5 +1,5 @@
 -- The registry's answers, as a table: the rows of an act are tried from the top.
-use Rattle.std.specs.Prelude.{ℕ, Bool, true, false, not, ◌||◌, List, Option, Some, None, is_some, if◌then◌else◌, ◌==◌}
+use Rattle.std.specs.Prelude.{ℕ, Bool, true, false, not, ◌||◌, List, Option, Some, None, is_some, if◌then◌else◌, ◌==◌, IsTrue, IsFalse}
 use Rattle.std.specs.Option.{option_map_or}
 use Rattle.mapper_requests.specs.declared.request.Bad.{Bad as Badness}
 use Rattle.mapper_requests.specs.declared.request.Bad.TheVariants.{UnknownVerb, WrongWords as WordsAreWrong, BadNumber as NumberIsBad}
@@ -123,3 +123,11 @@ at_once project noted conn Pause = Nothing
 at_once project noted conn Left = Nothing
 at_once project noted conn Lost = Nothing
 at_once project noted conn Done = Nothing
+
+-- What an accepted Compiled finds: its connection holds the unit, an Export of it was accepted, no Compiled of it was
+-- accepted before, and it wasn't built.
+pub record IsFirstReport (project : ProjectView) (answered : List Answered) (conn unit : ℕ) : Type 0 where
+  pub is_held : IsTrue (holds answered conn unit)
+  pub was_exported : IsTrue (is_exported answered unit)
+  pub not_reported : IsFalse (is_reported answered unit)
+  pub not_built : IsFalse (is_built project unit)

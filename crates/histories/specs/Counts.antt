@@ -1,7 +1,7 @@
 -- What the kinds of acts do to the counts of a history.
-use Rattle.std.specs.Prelude.{◌≡◌, ℕ, ◌+◌, ◌<◌, Bool, true, false, List, length, IsTrue, IsFalse}
+use Rattle.std.specs.Prelude.{◌≡◌, ℕ, ◌+◌, ◌<◌, Bool, true, false, if◌then◌else◌, List, length, IsTrue, IsFalse}
 use Rattle.unit_registry.specs.declared.act.Act.{Act}
-use Rattle.unit_registry.specs.declared.act.Act.TheVariants.{Open, Left, Lost, Done}
+use Rattle.unit_registry.specs.Acts.{is_open_act, goes, is_done}
 use Rattle.unit_registry.specs.Projects.{ProjectView}
 use Rattle.histories.specs.declared.entry.Entry.{Entry}
 use Rattle.histories.specs.Answered.{is_open, opened_count, open_count, done_count, reserved}
@@ -17,11 +17,7 @@ pub data Effect : Type 0 where
 
 -- which of these an act does
 abbrev pub effect_of : Act → Effect
-effect_of Open = Opens
-effect_of Left = Goes
-effect_of Lost = Goes
-effect_of Done = Ends
-effect_of _ = Asks
+effect_of act = if is_open_act act then Opens else (if goes act then Goes else (if is_done act then Ends else Asks))
 
 -- how many connections were opened, before and after
 abbrev pub ChangesOpened : Effect → ℕ → ℕ → Type 0

@@ -19,6 +19,6 @@ abbrev pub has_its_unit : Act → Bool
 has_its_unit (Compiled None true) = false
 has_its_unit _ = true
 
--- an entry, as histories have them
+-- an entry of a history: a Done is of no connection and any other act of one, and an item is of a declared unit
 abbrev pub IsEntry : Entry → Type 0
 IsEntry entry = IsTrue (has_its_connection entry && has_its_unit entry.act)

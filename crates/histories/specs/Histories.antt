@@ -1,9 +1,9 @@
 -- Histories: stalls, replies and legality. One recursion on the length notes each entry; all else reads the notes.
-use Rattle.std.specs.Prelude.{ℕ, Bool, true, false, not, ◌&&◌, ◌||◌, List, [], ◌∷◌, length, map, filter, fold, Option, Some, None, is_none, option_map, if◌then◌else◌, ◌==◌, ◌+◌, nat_lt, nat_le, IsTrue}
+use Rattle.std.specs.Prelude.{◌≡◌, ◌++◌, ℕ, Bool, true, false, not, ◌&&◌, ◌||◌, List, [], ◌∷◌, length, map, filter, fold, Option, Some, None, is_none, option_map, if◌then◌else◌, ◌==◌, ◌+◌, nat_lt, nat_le, IsTrue}
 use Rattle.std.specs.List.{list_any, list_all}
 use Rattle.std.specs.Option.{option_map_or, option_or}
 use Rattle.unit_registry.specs.declared.act.Act.{Act}
-use Rattle.unit_registry.specs.Acts.{is_open_act, is_done, unit_of, hello_of}
+use Rattle.unit_registry.specs.Acts.{is_open_act, is_pause, is_done, goes, unit_of, hello_of}
 use Rattle.unit_registry.specs.Projects.{ProjectView, unit_count, is_plain}
 use Rattle.histories.specs.declared.entry.Entry.{Entry}
 use Rattle.histories.specs.declared.answer.Answer.{Answer}
@@ -17,7 +17,7 @@ use Rattle.histories.specs.Answers.{at_once}
 
 -- whether the connection has an import that waits
 abbrev pub is_waiting : ProjectView → List Noted → ℕ → Bool
-is_waiting project noted conn = list_any (λ w. w.conn == conn) (pending project noted)
+is_waiting project noted conn = list_any (λ wait. wait.conn == conn) (pending project noted)
 
 -- whether the connection has paused with an import that waits
 abbrev pub is_stuck : ProjectView → List Noted → ℕ → Bool
@@ -35,7 +35,7 @@ is_stalled project workers noted =
 abbrev pub given_up : ProjectView → ℕ → List Noted → List ℕ
 given_up project workers noted =
     if is_stalled project workers noted
-    then filter (λ u. is_none (holder (answered_of noted) u)) (map (λ w. w.unit) (pending project noted))
+    then filter (λ unit. is_none (holder (answered_of noted) unit)) (map (λ wait. wait.unit) (pending project noted))
     else []
 
 -- the entry with what was said to it
@@ -67,6 +67,10 @@ reply project workers history place = reply_in project (noted_of project workers
 -- whether the act needs a worker of its own: an Open and a Done
 abbrev pub takes_worker : Act → Bool
 takes_worker act = is_open_act act || is_done act
+
+-- whether the act asks nothing: an Open, a Pause, the end of a connection and that of a worker
+abbrev pub asks_nothing : Act → Bool
+asks_nothing act = takes_worker act || is_pause act || goes act
 
 -- a connection opens whose number isn't that of the openings before it
 abbrev pub is_out_of_order : List Answered → Entry → Bool
@@ -104,15 +108,11 @@ fault project workers limit noted entry =
     else (if is_past workers limit (and_then project workers noted entry) then Some Full
     else None))))
 
--- a place, and what is wrong there
-abbrev pub at_place : ℕ → IllegalReason → ℕ × IllegalReason
-at_place place reason = (place, reason)
-
 -- the first place at which an entry fails a check after the entries before it, and why
 abbrev pub first_fault : ProjectView → ℕ → ℕ → ℕ → List Noted → List Entry → Option (ℕ × IllegalReason)
 first_fault project workers limit place noted [] = None
 first_fault project workers limit place noted (entry ∷ entries) =
-    option_or (option_map (at_place place) (fault project workers limit noted entry))
+    option_or (option_map (λ reason. (place, reason)) (fault project workers limit noted entry))
     (first_fault project workers limit (place + 1) (and_then project workers noted entry) entries)
 
 -- each entry passes the checks after the entries before it
@@ -125,3 +125,13 @@ is_legal_after project workers limit noted (entry ∷ entries) =
 -- a history of which each entry passes the checks after the entries before it
 abbrev pub IsLegal : ProjectView → ℕ → ℕ → List Entry → Type 0
 IsLegal project workers limit history = IsTrue (is_legal_after project workers limit [] history)
+
+-- The history is legal up to the place, and the entry there fails a check for the reason.
+pub record IsFirstFault (project : ProjectView) (workers limit : ℕ) (history : List Entry) (place : ℕ) (reason : IllegalReason) : Type 0 where
+  pub front : List Entry
+  pub entry : Entry
+  pub behind : List Entry
+  pub is_history : history ≡ front ++ entry ∷ behind
+  pub is_place : place ≡ length front
+  pub legal : IsLegal project workers limit front
+  pub fails : fault project workers limit (noted_of project workers front) entry ≡ Some reason

@@ -24,11 +24,11 @@ pub record Noted : Type 0 where
 
 -- without what is given up
 abbrev pub answered_of : List Noted → List Answered
-answered_of noted = map (λ e. e.answered) noted
+answered_of noted = map (λ entry. entry.answered) noted
 
 -- whether the unit was given up
 abbrev pub is_given_up : List Noted → ℕ → Bool
-is_given_up noted unit = list_any (λ e. list_any (λ u. u == unit) e.given) noted
+is_given_up noted unit = list_any (λ entry. list_any (λ other. other == unit) entry.given) noted
 
 -- how the unit has ended: compiled; else failed, where it was given up or its holder has gone; else not yet
 abbrev pub fate : ProjectView → List Noted → ℕ → Option Fate
@@ -50,7 +50,7 @@ answer_by Failed unit = Refused UnitFailed
 -- how a wait ends with the newest entry, if it does: its connection has not gone before, and its unit has ended after
 abbrev pub ending : ProjectView → List Noted → List Noted → ℕ → Said → Option Answer
 ending project before after conn (Waits unit) =
-    if not (has_gone (answered_of before) conn) then option_map (λ f. answer_by f unit) (fate project after unit) else None
+    if not (has_gone (answered_of before) conn) then option_map (λ end. answer_by end unit) (fate project after unit) else None
 ending project before after conn _ = None
 
 -- the entry at the place, with what was said to it
@@ -61,7 +61,7 @@ answered_at noted place = slice_get (reverse (answered_of noted)) place
 abbrev pub coming_reply : ProjectView → Noted → List Noted → ℕ → Option Answer
 coming_reply project newest before place =
     if place == length before then answer_in newest.answered.said
-    else option_and_then (λ e. ending project before (newest ∷ before) e.conn e.said) (answered_at before place)
+    else option_and_then (λ entry. ending project before (newest ∷ before) entry.conn entry.said) (answered_at before place)
 
 -- the reply to the request at the place
 abbrev pub reply_in : ProjectView → List Noted → ℕ → Option Answer
@@ -71,7 +71,8 @@ reply_in project (newest ∷ before) place =
 
 -- whether no reply has come, and the connection is open
 abbrev pub is_still_waiting : ProjectView → List Noted → Wait → Bool
-is_still_waiting project noted w = is_open (answered_of noted) w.conn && is_none (reply_in project noted w.place)
+is_still_waiting project noted wait =
+    is_open (answered_of noted) wait.conn && is_none (reply_in project noted wait.place)
 
 -- the imports that still wait
 abbrev pub pending : ProjectView → List Noted → List Wait
@@ -85,4 +86,4 @@ pair_of _ awaited = None
 -- the pairs of a unit and another for which its holder waits
 abbrev pub waits : ProjectView → List Noted → List (ℕ × ℕ)
 waits project noted =
-    filter_map (λ w. pair_of (who (answered_of noted) w.conn) w.unit) (pending project noted)
+    filter_map (λ wait. pair_of (who (answered_of noted) wait.conn) wait.unit) (pending project noted)

@@ -7,15 +7,18 @@ ghost use Rattle.histories.specs.Reasons.{illegal_text, longest_illegal_text};
 /// own).
 #[derive(Clone, Copy, Debug, PartialEq, Eq)]
 pub enum IllegalReason {
-    /// A connection opens whose number isn't that of the openings before it.
+    /// An Open comes whose connection isn't the number of Opens before it.
     OutOfOrder,
-    /// The connection isn't open.
+    /// Another act than an Open or a Done comes of a connection that isn't open.
     NotOpen,
-    /// As many connections are open, or workers done, as there are workers.
+    /// An Open or a Done comes while the open connections and the workers that are done are together as many as there
+    /// are workers.
     Crowded,
-    /// The project has no such unit, or the unit is plain and its name is asked.
+    /// The act names a unit whose number the project doesn't have or, where it is no Hello, one that is plain and so
+    /// has no name.
     OutOfRange,
-    /// With the ends that are still to come, the history would be longer than its limit.
+    /// With the entry, the length of the history and the ends that are still to come are together more than the
+    /// limit: an end of each open connection, and a Done of each worker that isn't done.
     Full,
 }
 

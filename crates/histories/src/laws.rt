@@ -1,20 +1,21 @@
 //! Laws of histories, as the contracts of functions that do nothing.
 
-ghost use Rattle.std.specs.Prelude.{◌≡◌, ◌≢◌, ◌↔◌, ◌+◌, ◌<◌, ◌≤◌, ℕ, List, [], ◌∷◌, ◌++◌, length, All, Contains, count_by, Some, None, is_none, IsTrue, IsFalse};
+ghost use Rattle.std.specs.Prelude.{◌≡◌, ◌≢◌, ◌↔◌, ◌||◌, ◌+◌, ◌<◌, ◌≤◌, ℕ, List, [], ◌∷◌, ◌++◌, length, All, Contains, count_by, Some, None, is_none, IsTrue, IsFalse};
 ghost use Rattle.std.specs.List.{range_with_len};
 ghost use Rattle.wait_graph.specs.Walks.{IsAcyclic};
-ghost use Rattle.unit_registry.specs.Acts.{is_done};
-ghost use Rattle.unit_registry.specs.Projects.{ProjectView};
+ghost use Rattle.unit_registry.specs.Acts.{is_open_act, is_done, is_compiled_of};
+ghost use Rattle.unit_registry.specs.Projects.{ProjectView, is_built};
 ghost use Rattle.histories.specs.declared.entry.Entry.{Entry};
 ghost use Rattle.histories.specs.declared.answer.Answer.{Answer};
 ghost use Rattle.histories.specs.declared.answered.Answered.{Answered};
 ghost use Rattle.histories.specs.declared.answered.Wait.{Wait};
+ghost use Rattle.histories.specs.declared.illegal_reason.IllegalReason.{IllegalReason};
 ghost use Rattle.histories.specs.declared.standing.Fate.{Fate};
 ghost use Rattle.histories.specs.declared.standing.Who.TheVariants.{Nobody};
-ghost use Rattle.histories.specs.Answered.{was_opened, has_gone, is_open, open_connections, opened_count, open_count, done_count, reserved, is_paused, who, told_to_wait};
+ghost use Rattle.histories.specs.Answered.{was_opened, has_gone, is_open, open_connections, opened_count, open_count, done_count, reserved, is_paused, who, holder, is_accepted, is_reported, stores, is_stored, told_to_wait};
 ghost use Rattle.histories.specs.Noted.{fate, pending, waits, answer_in, answer_by};
-ghost use Rattle.histories.specs.Answers.{at_once};
-ghost use Rattle.histories.specs.Histories.{noted_of, answered_in, and_then, reply, is_waiting, fault, first_fault, IsLegal};
+ghost use Rattle.histories.specs.Answers.{at_once, IsFirstReport};
+ghost use Rattle.histories.specs.Histories.{noted_of, answered_in, and_then, reply, with_said, asks_nothing, is_waiting, fault, first_fault, IsLegal, IsFirstFault};
 ghost use Rattle.histories.specs.Counts.{effect_of, ChangesOpened, ChangesOpen, ChangesDone, ChangesReserved, ChangesOwn, MayCome};
 
 /// A reply that has come stays, whatever is entered after it.
@@ -25,6 +26,7 @@ pub fn replies_stay()
 {}
 
 /// A reply comes with its request's own entry, or, where that was told to wait, with the entry after which
+/// its unit has ended. An act that asks nothing never has one, nor an import whose connection has gone before
 /// its unit has ended.
 pub fn replies_come()
     ensures own { (project : ProjectView) (workers : ℕ) (history : List Entry) (entry : Entry)
@@ -38,6 +40,14 @@ pub fn replies_come()
         → (end : Fate)
         → fate project (noted_of project workers (history ++ entry ∷ [])) wait.unit ≡ Some end
         → reply project workers (history ++ entry ∷ []) wait.place ≡ Some (answer_by end wait.unit) }
+    ensures nothing { (project : ProjectView) (workers : ℕ) (history more : List Entry) (entry : Entry)
+        → IsTrue (asks_nothing entry.act)
+        → reply project workers (history ++ entry ∷ more) (length history) ≡ None }
+    ensures gone { (project : ProjectView) (workers : ℕ) (history more : List Entry)
+        → (wait : Wait) → Contains (told_to_wait (answered_in project workers history)) wait
+        → IsTrue (has_gone (answered_in project workers history) wait.conn)
+        → fate project (noted_of project workers history) wait.unit ≡ None
+        → reply project workers (history ++ more) wait.place ≡ None }
 {}
 
 /// An import that was told to wait, and whose connection is open, has no reply exactly where its unit
@@ -88,10 +98,15 @@ pub fn legal_entries()
         × (fault project workers limit (noted_of project workers history) entry ≡ None)) }
 {}
 
-/// A history without a first fault is legal.
+/// A history without a first fault is legal, and one with a first fault is legal up to its place and fails there for
+/// its reason.
 pub fn first_fault_decides()
-    ensures { (project : ProjectView) (workers limit : ℕ) (history : List Entry)
+    ensures legal { (project : ProjectView) (workers limit : ℕ) (history : List Entry)
         → (first_fault project workers limit 0 [] history ≡ None) ↔ IsLegal project workers limit history }
+    ensures illegal { (project : ProjectView) (workers limit : ℕ) (history : List Entry)
+        (place : ℕ) (reason : IllegalReason)
+        → (first_fault project workers limit 0 [] history ≡ Some (place, reason))
+        ↔ IsFirstFault project workers limit history place reason }
 {}
 
 /// After a legal history, an entry fails no check exactly where what its kind needs is there. An end and a
@@ -134,11 +149,15 @@ pub fn one_more_entry()
         (reserved workers (answered_in project workers (history ++ entry ∷ []))) }
 {}
 
-/// An entry leaves open whichever other connection is open. What it does to its own goes by the kind of
-/// its act.
+/// An entry leaves open whichever other connection is open, and so do more entries of others. What it does to
+/// its own goes by the kind of its act.
 pub fn open_under_entries()
     ensures other { (entry : Answered) (answered : List Answered) (conn : ℕ)
         → entry.conn ≢ conn → is_open (entry ∷ answered) conn ≡ is_open answered conn }
+    ensures others { (project : ProjectView) (workers : ℕ) (history more : List Entry) (conn : ℕ)
+        → All (λ entry. entry.conn ≢ conn) more
+        → is_open (answered_in project workers (history ++ more)) conn
+        ≡ is_open (answered_in project workers history) conn }
     ensures own { (project : ProjectView) (workers limit : ℕ) (history : List Entry) (entry : Entry)
         → IsLegal project workers limit (history ++ entry ∷ [])
         → ChangesOwn (effect_of entry.act) (is_open (answered_in project workers history) entry.conn)
@@ -175,4 +194,38 @@ pub fn open_connections_counted()
         → open_count (answered_in project workers history)
         ≡ count_by (is_open (answered_in project workers history))
         (range_with_len 0 (opened_count (answered_in project workers history))) }
+{}
+
+/// Openings, and ends of workers, are counted over the entries alone.
+pub fn entries_counted()
+    ensures opened { (project : ProjectView) (workers : ℕ) (history : List Entry)
+        → opened_count (answered_in project workers history)
+        ≡ count_by (λ entry. is_open_act entry.act) history }
+    ensures done { (project : ProjectView) (workers : ℕ) (history : List Entry)
+        → done_count (answered_in project workers history)
+        ≡ count_by (λ entry. is_done entry.act) history }
+{}
+
+/// A unit that has a holder, or that was reported, wasn't built. It is reported by its holder alone, and at most
+/// once.
+pub fn reported_once()
+    ensures held { (project : ProjectView) (workers : ℕ) (history : List Entry) (unit conn : ℕ)
+        → holder (answered_in project workers history) unit ≡ Some conn → IsFalse (is_built project unit) }
+    ensures reported { (project : ProjectView) (workers : ℕ) (history : List Entry) (unit : ℕ)
+        → IsTrue (is_reported (answered_in project workers history) unit) → IsFalse (is_built project unit) }
+    ensures first { (project : ProjectView) (workers : ℕ) (history : List Entry) (entry : Entry) (unit : ℕ)
+        → IsTrue (is_accepted (at_once project (noted_of project workers history) entry.conn entry.act))
+        → IsTrue (is_compiled_of unit entry.act)
+        → IsFirstReport project (answered_in project workers history) entry.conn unit }
+{}
+
+/// The units with an item: one more entry adds the unit of an accepted Compiled that came with one, which was
+/// reported then.
+pub fn items_stored()
+    ensures more { (project : ProjectView) (workers : ℕ) (history : List Entry) (entry : Entry) (unit : ℕ)
+        → is_stored (answered_in project workers (history ++ entry ∷ [])) unit
+        ≡ (stores unit (with_said entry (at_once project (noted_of project workers history) entry.conn entry.act))
+        || is_stored (answered_in project workers history) unit) }
+    ensures reported { (answered : List Answered) (unit : ℕ)
+        → IsTrue (is_stored answered unit) → IsTrue (is_reported answered unit) }
 {}
