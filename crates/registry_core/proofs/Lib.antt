@@ -1,0 +1,9 @@
+pub mod Desks
+pub mod Ready
+pub mod Circles
+pub mod Entering
+pub mod Stalling
+pub mod Idle
+pub mod Entered
+pub mod Keeping
+pub mod Alone

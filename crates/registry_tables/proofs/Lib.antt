@@ -1,0 +1,4 @@
+pub mod Tabling
+pub mod Openings
+pub mod Pairs
+pub mod Settling

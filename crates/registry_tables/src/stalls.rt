@@ -1,0 +1,74 @@
+//! Stalls: nothing can come any more, and the units that no connection holds are given up.
+ghost use Rattle.std.specs.Prelude.{◌≡◌, ◌==◌, ◌&&◌, ◌||◌, not, ℕ, ◌<◌, ◌≤◌, ◌^◌, false, length, get_or, reverse};
+ghost use Rattle.std.specs.List.{list_any};
+ghost use Rattle.histories.proofs.Members.{In};
+ghost use Rattle.registry_tables.specs.declared.imports.Waiting.{Waiting};
+ghost use Rattle.registry_tables.specs.Stalled.{AreWithin, is_waiting_in, all_wait_in, is_stalled_in, gives_up};
+
+use crate::imports::Waiting;
+use crate::tables::Tables;
+
+/// Whether the connection waits for a unit that has not ended.
+fn is_waiting(waiting: &[Waiting], tables: &Tables, conn: u32) -> bool
+    requires { AreWithin tables.now waiting.now }
+    ensures { result ≡ is_waiting_in tables.now (reverse waiting.now) conn }
+{
+    let mut found = false;
+    for waiter in waiting {
+        if waiter.conn == conn && tables.fate(waiter.unit).is_none() {
+            found = true;
+        }
+    }
+    found
+}
+
+/// Whether each open connection has paused and waits.
+fn all_wait(waiting: &[Waiting], tables: &Tables) -> bool
+    requires { AreWithin tables.now waiting.now }
+    ensures { result ≡ all_wait_in tables.now (reverse waiting.now) }
+{
+    let mut all = true;
+    for conn in tables.open() {
+        if !(tables.is_paused(*conn) && is_waiting(waiting, tables, *conn)) {
+            all = false;
+        }
+    }
+    all
+}
+
+/// Whether nothing can come any more.
+fn is_stalled(waiting: &[Waiting], tables: &Tables, workers: u32) -> bool
+    requires { AreWithin tables.now waiting.now }
+    ensures { result ≡ is_stalled_in tables.now workers (reverse waiting.now) }
+{
+    let count = tables.open_count();
+    count != 0 && count + tables.done_count() == workers && all_wait(waiting, tables)
+}
+
+/// Gives up the units that an open connection waits for and none holds.
+fn give_up(waiting: &[Waiting], tables: &mut Tables)
+    requires { AreWithin tables.old waiting.now }
+    ensures same { tables.new ≡ record tables.old { given = tables.new.given } }
+    ensures given { (unit : ℕ) → get_or tables.new.given unit false ≡ (get_or tables.old.given unit false || list_any (λ waiter. waiter.unit == unit && gives_up tables.old waiter) (reverse waiting.now)) }
+{
+    for waiter in waiting {
+        if !tables.has_gone(waiter.conn) && tables.is_free(waiter.unit) {
+            tables.give_up(waiter.unit);
+        }
+    }
+}
+
+/// After one more entry: where nothing can come any more, the awaited units that no connection holds are given up.
+/// Answers whether that is so.
+pub fn settle_stall(waiting: &[Waiting], tables: &mut Tables, workers: u32) -> bool
+    requires { AreWithin tables.old waiting.now }
+    ensures stalled { result ≡ is_stalled_in tables.old workers (reverse waiting.now) }
+    ensures same { tables.new ≡ record tables.old { given = tables.new.given } }
+    ensures given { (unit : ℕ) → get_or tables.new.given unit false ≡ (get_or tables.old.given unit false || (is_stalled_in tables.old workers (reverse waiting.now) && list_any (λ waiter. waiter.unit == unit && gives_up tables.old waiter) (reverse waiting.now))) }
+{
+    let stalled = is_stalled(waiting, tables, workers);
+    if stalled {
+        give_up(waiting, tables);
+    }
+    stalled
+}
