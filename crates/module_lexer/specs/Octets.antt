@@ -2,6 +2,7 @@
 use Rattle.std.specs.Prelude.{ℕ, Bool, ◌&&◌, ◌||◌, ◌==◌, not, nat_le, List, [], ◌∷◌, codes}
 use Rattle.std.specs.List.{list_any}
 use Rattle.std.specs.Str.{bytes_eq}
+use Rattle.std.specs.Char.{is_ascii_digit}
 
 -- NEWLINE
 abbrev pub is_newline : ℕ → Bool
@@ -15,13 +16,9 @@ is_white octet = (octet == 32) || (octet == 9) || (octet == 13) || (octet == 10)
 abbrev pub is_letter : ℕ → Bool
 is_letter octet = (nat_le 65 octet && nat_le octet 90) || (nat_le 97 octet && nat_le octet 122) || (octet == 95)
 
--- a decimal digit
-abbrev pub is_digit : ℕ → Bool
-is_digit octet = nat_le 48 octet && nat_le octet 57
-
 -- what an identifier may go on with
 abbrev pub is_letter_or_digit : ℕ → Bool
-is_letter_or_digit octet = is_letter octet || is_digit octet
+is_letter_or_digit octet = is_letter octet || is_ascii_digit octet
 
 -- ; : . , ( ) { } * & =
 abbrev pub is_punctuator : ℕ → Bool

@@ -1,9 +1,8 @@
 //! The piece at the front of what is left of a source.
 
-ghost use Rattle.std.specs.Prelude.{◌≡◌, ◌<◌, length, slice_index, true, MatchResult};
+ghost use Rattle.std.specs.Prelude.{◌≡◌, ◌<◌, length, slice_index, true};
 ghost use Rattle.module_lexer.specs.Octets.{is_letter};
-ghost use Rattle.module_lexer.specs.Faults.{Breaks};
-ghost use Rattle.module_lexer.specs.Fronts.{IsFront};
+ghost use Rattle.module_lexer.specs.Fronts.{FrontAnswer};
 
 use crate::lengths::{close_at, line_len, string_len, word_len};
 use crate::octets::{is_letter, is_punctuator, is_reserved, is_white};
@@ -31,7 +30,7 @@ pub(crate) struct Stop {
 fn word_front(rest: &[u8]) -> Result<Front, Stop>
     requires some { 0 < length rest.now }
     requires letter { is_letter (slice_index rest.now 0) ≡ true }
-    ensures { MatchResult result (λ front. IsFront rest.now front.kind front.len) (λ stop. Breaks stop.reason stop.ahead rest.now) }
+    ensures { FrontAnswer result rest.now }
 {
     let len = word_len(rest);
     if len > LONGEST_IDENTIFIER {
@@ -55,7 +54,7 @@ fn word_front(rest: &[u8]) -> Result<Front, Stop>
 fn quoted_front(rest: &[u8]) -> Result<Front, Stop>
     requires some { 0 < length rest.now }
     requires quote { slice_index rest.now 0 ≡ 34 }
-    ensures { MatchResult result (λ front. IsFront rest.now front.kind front.len) (λ stop. Breaks stop.reason stop.ahead rest.now) }
+    ensures { FrontAnswer result rest.now }
 {
     let body = string_len(&rest[1..]);
     if 1 + body == rest.len() {
@@ -81,7 +80,7 @@ fn block_front(rest: &[u8]) -> Result<Front, Stop>
     requires some { 1 < length rest.now }
     requires slash { slice_index rest.now 0 ≡ 47 }
     requires star { slice_index rest.now 1 ≡ 42 }
-    ensures { MatchResult result (λ front. IsFront rest.now front.kind front.len) (λ stop. Breaks stop.reason stop.ahead rest.now) }
+    ensures { FrontAnswer result rest.now }
 {
     match close_at(&rest[2..]) {
         Some(body) => Ok(Front {
@@ -99,7 +98,7 @@ fn block_front(rest: &[u8]) -> Result<Front, Stop>
 fn comment_front(rest: &[u8]) -> Result<Front, Stop>
     requires some { 0 < length rest.now }
     requires slash { slice_index rest.now 0 ≡ 47 }
-    ensures { MatchResult result (λ front. IsFront rest.now front.kind front.len) (λ stop. Breaks stop.reason stop.ahead rest.now) }
+    ensures { FrontAnswer result rest.now }
 {
     let outside = Stop {
         reason: SourceReason::OctetOutside,
@@ -124,7 +123,7 @@ fn comment_front(rest: &[u8]) -> Result<Front, Stop>
 /// The piece at the front, or why none begins there.
 pub(crate) fn front_of(rest: &[u8]) -> Result<Front, Stop>
     requires { 0 < length rest.now }
-    ensures { MatchResult result (λ front. IsFront rest.now front.kind front.len) (λ stop. Breaks stop.reason stop.ahead rest.now) }
+    ensures { FrontAnswer result rest.now }
 {
     let first = rest[0];
     if is_letter(first) {

@@ -7,7 +7,7 @@ ghost use Rattle.module_lexer.specs.Faults.{HasLexFault};
 ghost use Rattle.module_lexer.specs.declared.token.Token.{Token};
 ghost use Rattle.module_lexer.specs.declared.reason.SourceReason.{SourceReason};
 
-/// A text has one reading: its tokens, or else one fault.
+/// A text has at most one reading: its tokens, or else one fault.
 pub fn one_reading()
     ensures tokens { (text : List ℕ) (tokens others : List Token)
         → HasTokens text tokens → HasTokens text others → tokens ≡ others }

@@ -28,7 +28,7 @@ pub enum LexFault {
 }
 
 impl From<Memory> for LexFault {
-    ghost from_gives = { λ _ e. e ≡ fault.Memory };
+    ghost from_gives = { λ _ error. error ≡ fault.Memory };
 
     fn from(_memory: Memory) -> LexFault {
         LexFault::Memory
@@ -76,9 +76,9 @@ impl Model for Lexed {
 impl Lexed {
     /// The tokens of a text, or its first fault.
     ///
-    /// The text is cut from its front by the rules at the head of this crate. `Memory` may come for any
-    /// text. `Text` comes exactly where the cut can't go on, with one of four reasons and the line of
-    /// the place at fault:
+    /// The text is cut from its front by the rules at the head of this crate. It has at most
+    /// 2,147,483,648 octets. `Memory` may come for any text. `Text` comes exactly where the cut can't go
+    /// on, with one of four reasons and the line of the place at fault:
     ///
     /// - `OctetOutside`: an octet that begins no token, comment or white space, or the first forbidden
     ///   octet in a string;
@@ -86,8 +86,6 @@ impl Lexed {
     /// - `UnclosedString`: the beginning of a string where the text ends before its `"`, and no forbidden
     ///   octet stands in it;
     /// - `IdentifierTooLong`: the beginning of an identifier of more than 255 octets.
-    ///
-    /// The time grows with the text's length.
     pub fn read(alloc: Global, text: &[u8]) -> Result<Lexed, LexFault>
         requires { length text.now ≤ 2147483648 }
         ensures tokens { IfOk result (HasTokens text.now) }
@@ -123,11 +121,11 @@ impl Lexed {
         self.tokens.len()
     }
 
-    /// Token `k`, counted from 0.
-    pub fn token(&self, k: u32) -> Token
-        requires { k < length self.now }
-        ensures { slice_get self.now k ≡ Some result }
+    /// The token of this index, counted from 0.
+    pub fn token(&self, index: u32) -> Token
+        requires { index < length self.now }
+        ensures { slice_get self.now index ≡ Some result }
     {
-        *self.tokens.get(k)
+        *self.tokens.get(index)
     }
 }

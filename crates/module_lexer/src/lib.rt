@@ -18,6 +18,7 @@ mod front;
 mod laws;
 mod lengths;
 mod lexed;
+mod lines;
 mod octets;
 mod reason;
 #[cfg(test)]
@@ -26,5 +27,6 @@ mod token;
 
 pub use laws::{one_reading, tokens_in_order};
 pub use lexed::{LexFault, Lexed};
+pub use lines::end_line;
 pub use reason::SourceReason;
 pub use token::{Token, TokenKind};

@@ -5,41 +5,48 @@ ghost use Rattle.module_lexer.specs.Reasons.{reason_text};
 
 /// Why a source is refused (this project's own reasons).
 ///
-/// The first four are those of a text without tokens. The others are those of a unit, in the order
-/// in which they are tried.
+/// A source is read in steps, and a fault of a step comes before any of a later one:
+///
+/// 1. the text is cut into tokens;
+/// 2. the tokens are read as a unit by the grammar;
+/// 3. the unit is checked by itself;
+/// 4. the unit is compared with what the project says of it;
+/// 5. the units that it imports are looked for, and a missing one is told by its name;
+/// 6. the unit is checked against what its imports bring;
+/// 7. the names of its view and of its list of exports are counted.
 #[derive(Clone, Copy, Debug, PartialEq, Eq)]
 pub enum SourceReason {
-    /// An octet that begins no token, comment or white space, or one that no string may hold.
+    /// Step 1: an octet that begins no token, comment or white space, or one that no string may hold.
     OctetOutside,
-    /// A comment that begins with `/*` and isn't closed.
+    /// Step 1: a comment that begins with `/*` and isn't closed.
     UnclosedComment,
-    /// A string that isn't closed.
+    /// Step 1: a string that isn't closed.
     UnclosedString,
-    /// An identifier of more than 255 octets.
+    /// Step 1: an identifier of more than 255 octets.
     IdentifierTooLong,
-    /// A token, or the end of the text, that no unit has there.
+    /// Step 2: a token, or the end of the text, that no unit has there.
     Syntax,
-    /// An `export` in a unit that is no interface.
+    /// Step 3: an `export` in a unit that is no interface.
     ExportOutside,
-    /// The import of a partition in a unit of no module.
+    /// Step 3: the import of a partition in a unit of no module.
     PartitionOutside,
-    /// An imported string that isn't a header name.
+    /// Step 3: an imported string that isn't a header name.
     BadHeaderName,
-    /// A name of more than 512 octets.
+    /// Step 3: a name of more than 512 octets.
     NameTooLong,
-    /// More than 1,000 imports.
+    /// Step 3: more than 1,000 imports.
     TooManyImports,
-    /// A name that is declared twice.
+    /// Step 3: a name that is declared twice.
     DuplicateName,
-    /// Another unit than the project says.
+    /// Step 4: another unit than the project says.
     UnitDiffers,
-    /// An import in a header unit.
+    /// Step 4: an import in a header unit.
     ImportInHeader,
-    /// An implementation unit that is imported and exported.
+    /// Step 6: an implementation unit that is imported and exported.
     ExportedImplementation,
-    /// A type that is neither declared before nor imported.
+    /// Step 6: a type that is neither declared before nor imported.
     UnknownType,
-    /// More than 65,536 names in the view or the list of exports.
+    /// Step 7: more than 65,536 names in the view or the list of exports.
     TooManyNames,
 }
 

@@ -216,9 +216,6 @@ start_kept t = type_kept POfDeclared PBegin t
 some_ident : Ident
 some_ident = record { name = []; line = 0 }
 
-some_type : TypeTree
-some_type = type_of false Native 0 false
-
 -- each part can be ended
 abbrev pub Completes : ItemPart → Type 0
 Completes p = (more : List Terminal) × (is : Item) × (item is ≡ item_tokens p ++ more)

@@ -24,7 +24,7 @@ good_good text u v a b =
     one_unit (seen_all text b.tokens) u v (unit_seen text a.tokens b.tokens a.tree u a.cut b.cut a.generated a.unit_is) (unit_seen text b.tokens b.tokens b.tree v b.cut b.cut b.generated b.unit_is)
 
 good_syntax : (text : List ℕ) (u : UnitOf) (l : ℕ) (r : SourceReason) → ReadsUnit text u → HasSyntaxFault text l r → ⊥
-good_syntax text u l r a b = unit_no_fault (seen_all text b.tokens) u b.k (unit_seen text a.tokens b.tokens a.tree u a.cut b.cut a.generated a.unit_is) b.at
+good_syntax text u l r a b = unit_no_fault (seen_all text b.tokens) u b.place (unit_seen text a.tokens b.tokens a.tree u a.cut b.cut a.generated a.unit_is) b.at
 
 good_rule : (text : List ℕ) (u : UnitOf) (l : ℕ) (r : SourceReason) → ReadsUnit text u → BreaksRule text l r → ⊥
 good_rule text u l r a b =
@@ -34,12 +34,12 @@ good_rule text u l r a b =
 syntax_syntax : (text : List ℕ) (k l : ℕ) (r s : SourceReason) → HasSyntaxFault text k r → HasSyntaxFault text l s → (k ≡ l) × (r ≡ s)
 syntax_syntax text k l r s a b =
     let same : a.tokens ≡ b.tokens = one_tokens text a.tokens b.tokens a.cut b.cut in
-    let here : IsSyntaxFault (seen_all text b.tokens) a.k = subst (λ t. IsSyntaxFault (seen_all text t) a.k) same a.at in
-    let place : a.k ≡ b.k = one_syntax_fault (seen_all text b.tokens) a.k b.k here b.at in
+    let here : IsSyntaxFault (seen_all text b.tokens) a.place = subst (λ t. IsSyntaxFault (seen_all text t) a.place) same a.at in
+    let place : a.place ≡ b.place = one_syntax_fault (seen_all text b.tokens) a.place b.place here b.at in
     (a.line_is ∙ (λ i. token_line text (same i) (place i)) ∙ sym b.line_is, a.reason_is ∙ sym b.reason_is)
 
 syntax_rule : (text : List ℕ) (k l : ℕ) (r s : SourceReason) → HasSyntaxFault text k r → BreaksRule text l s → ⊥
-syntax_rule text k l r s a b = unit_no_fault (seen_all text a.tokens) (unit_of b.tree) a.k (unit_seen text b.tokens a.tokens b.tree (unit_of b.tree) b.cut a.cut b.generated refl) a.at
+syntax_rule text k l r s a b = unit_no_fault (seen_all text a.tokens) (unit_of b.tree) a.place (unit_seen text b.tokens a.tokens b.tree (unit_of b.tree) b.cut a.cut b.generated refl) a.at
 
 abbrev first_line : List Fault → ℕ
 first_line [] = 0

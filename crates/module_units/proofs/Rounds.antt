@@ -1,5 +1,5 @@
 -- Each part of a unit can be ended, and a reader that is given the tokens of a unit ends with that unit.
-use Rattle.std.proofs.Common.{◌≡◌, ℕ, Bool, true, false, List, [], ◌∷◌, ◌++◌, map, Option, Some, None, sym, ap, ◌∙◌, refl, append_assoc}
+use Rattle.std.proofs.Common.{◌≡◌, ℕ, Bool, true, false, List, [], ◌∷◌, ◌++◌, map, Option, Some, None, sym, ap, ◌∙◌, refl, subst, append_assoc}
 use Rattle.std.proofs.lemmas.List.{append-nil}
 use Rattle.std.specs.List.{flat_map}
 use Rattle.module_units.specs.Terminals.{Terminal, Name, Quoted, Export, Module, Import, Colon, Plain, Struct, Class, Using, Const, BuiltIn, Semicolon, Dot, LeftParen, RightParen, LeftBrace, RightBrace}
@@ -59,7 +59,7 @@ unit_completes (PModule e line n) =
 unit_completes (PPartition e line m c n) =
     let named_by = name_completes n in
     module_completes e line (dotted m ++ (Colon c ∷ name_tokens n)) named_by.0 m (Some (c, named_by.1)) (ap (λ l. dotted m ++ (Colon c ∷ l)) named_by.2 ∙ sym (append_assoc (dotted m) (Colon c ∷ name_tokens n) named_by.0))
-unit_completes (PAfterImport m is e line) = rw append-nil at (import_completes m is e line [] _ (Header [] 0) refl)
+unit_completes (PAfterImport m is e line) = subst BeginsUnit (append-nil (import_begun m is e line)) (import_completes m is e line [] _ (Header [] 0) refl)
 unit_completes (PWhole m is e line d dot) =
     let named_by = name_completes (whole_part d dot) in
     import_completes m is e line (name_tokens (whole_part d dot)) named_by.0 (Whole named_by.1) named_by.2

@@ -127,7 +127,7 @@ read_stops text tokens k r token (errors.Text line reason) cut is before stops =
     let m = middle (the_seen text) tokens k token is in
     inr (inl (record {
       tokens = tokens;
-      k = k;
+      place = k;
       cut = cut;
       at = stops_at (seen_all text tokens) k (the_seen text token) r.parser m.within m.there before.reads stops.0;
       line_is = stops.1 ∙ sym (line_at text tokens k token is);
@@ -190,7 +190,7 @@ early : (text : List ℕ) (tokens : List Token) (r : Reader) (line : ℕ) → Ha
 early text tokens r line cut read line_is other =
     inr (inl (record {
       tokens = tokens;
-      k = length (seen_all text tokens);
+      place = length (seen_all text tokens);
       cut = cut;
       at = ends_early (seen_all text tokens) r.parser (whole_run text tokens r read) other;
       line_is = line_is ∙ sym (end_line_is text tokens);

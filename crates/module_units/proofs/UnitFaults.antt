@@ -4,7 +4,7 @@ use Rattle.std.proofs.lemmas.List.{append-nil, map-append}
 use Rattle.std.specs.List.{flat_map}
 use Rattle.module_units.specs.Terminals.{Terminal, Name, Quoted, Export, Module, Import, Colon, Plain, Struct, Class, Using, Const, BuiltIn, Semicolon, Dot, LeftBrace, RightBrace}
 use Rattle.module_units.specs.Grammar.{Ident, ident, Dotted, dots, dotted, ModuleDecl, partition, module_decl, Imported, Whole, Part, Header, ImportTree, imported, import_tree, Item, StructItem, ClassItem, AliasItem, VariableItem, FunctionItem, item, DeclTree, Single, Group, decl_tree, UnitTree, head, unit_tree}
-use Rattle.module_units.specs.Unit.{TypeUse, ImportOf, UnitOf, dotted_name, item_decl, tree_decls, import_name, import_of, headed, head_of, with_parts, declared}
+use Rattle.module_units.specs.Unit.{TypeUse, ImportOf, UnitOf, dotted_name, item_decl, tree_decls, import_name, import_of, head_of, with_parts, declared}
 use Rattle.module_units.specs.Machine.{ItemPlace, ItemStep, Fails, Goes, Ends, item_step, item_start, Stage, AtHead, AtImports, AtDecls, NamePlace, Wants, Has, Context, Alone, Grouped, Place, Between, Exported, InModule, InPartition, AfterImport, InImport, InItem, InGroup, at, lift, step, start, context_marked, after_item, with_import}
 use Rattle.module_units.proofs.UnitParts.{group_decls, import_with, with_none, item_decl_is}
 use Rattle.module_units.specs.FaultRuns.{Behind, behind_at, import_length, colon_faults, twice, ended, too_many, fault_step, fault_run}
@@ -65,9 +65,6 @@ lifted_faults : (b : Behind) (u : UnitOf) (c : Context) (is : Item) (t : Termina
 lifted_faults b u c is t rest more first =
     begins_on b u c more (item_kind is) (item_name is) (item_uses is) (item_start t) rest (start_never t) (sym (ap start_run first) ∙ item_round is)
     ∙ ap (λ d. twice u (item_name is) ++ fault_run b (at (with_parts u [] (d ∷ [])) (after_item c)) more) (sym (item_decl_is (context_marked c) is))
-
-some_unit : UnitOf
-some_unit = headed UnitKinds.Plain [] [] 1
 
 start_between : (t : Terminal) → Starts t → (b : Behind) (u : UnitOf) (s : Stage) → fault_step b u (Between s) t ≡ []
 start_between (Import l) h b u s = absurd (cc (h.between u AtHead))
@@ -290,10 +287,6 @@ module_faults : (b : Behind) (e : Option ℕ) (line : ℕ) (d : Dotted) (p : Opt
     ≡ head_faults (Some (record { exported = e; line = line; name = d; partition = p })) ++ fault_run (behind_at d.first.line false) (at (head_of (Some (record { exported = e; line = line; name = d; partition = p }))) (Between AtImports)) more
 module_faults b None line d p more = named_module_faults b (head_of None) None line d p more
 module_faults b (Some l) line d p more = named_module_faults b (head_of None) (Some l) line d p more
-
-head_decls : (m : Option ModuleDecl) → names (head_of m) ≡ []
-head_decls None = refl
-head_decls (Some m) = refl
 
 names_kept : (u : UnitOf) (is : List ImportOf) → names (with_parts u is []) ≡ names u
 names_kept u is = ap (λ l. map (λ d. d.name) l) (append-nil u.decls)

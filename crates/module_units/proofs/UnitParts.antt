@@ -214,10 +214,6 @@ alone_grows f e tokens t (Ends kind i types) (is, kind_is, name_is, uses_are, to
       ap unit_tree (with_decl_tree f (Single e is)) ∙ tree_add_decl (front_tree f) (Single e is) ∙ ap (λ l. unit_tree (front_tree f) ++ (export e ++ l)) tokens_are,
     )
 
--- an item of a group
-in_group : (f : Front) (line : ℕ) (items : List Item) → List Terminal
-in_group f line items = unit_tree (front_tree f) ++ (Export line ∷ Plain LeftBrace ∷ flat_map item items)
-
 unit_add_item : (u : UnitOf) (items : List Item) (is : Item) → with_parts u [] (group_decls (items ++ is ∷ [])) ≡ with_parts (with_parts u [] (group_decls items)) [] (item_decl true is ∷ [])
 unit_add_item u items is =
     same_unit u.kind u.module u.partition u.module_line _ _ _ _
@@ -269,9 +265,6 @@ import_ends m is e line what name name_is = (
   where
     regroup : (a b c : List Terminal) (t : Terminal) → a ++ (b ++ (t ∷ c ++ Plain Semicolon ∷ [])) ≡ ((a ++ (b ++ t ∷ [])) ++ c) ++ Plain Semicolon ∷ []
     regroup a b c t = sym (simp append_assoc)
-
-module_ends : (m : ModuleDecl) → unit_of (imports_tree (Some m) []) ≡ head_of (Some m)
-module_ends m = with_none (head_of (Some m))
 
 exported_grows : (f : Front) (line : ℕ) (t : Terminal) → Grows ((unit_tree (front_tree f) ++ Export line ∷ []) ++ t ∷ []) (lift (unit_of (front_tree f)) (Alone (Some line)) (item_start t))
 exported_grows f line t =

@@ -6,7 +6,7 @@ use Rattle.module_units.specs.Terminals.{Key, Terminal, Name, Quoted, Export, Mo
 
 -- the terminal of an identifier
 abbrev pub ident : Ident → Terminal
-ident i = Name i.name i.line
+ident identifier = Name identifier.name identifier.line
 
 -- dotted = identifier { "." identifier }
 pub record Dotted : Type 0 where
@@ -15,11 +15,11 @@ pub record Dotted : Type 0 where
 
 -- { "." identifier }
 abbrev pub dots : List Ident → List Terminal
-dots is = flat_map (λ i. Plain Dot ∷ ident i ∷ []) is
+dots identifiers = flat_map (λ identifier. Plain Dot ∷ ident identifier ∷ []) identifiers
 
 -- the terminals of a dotted name
 abbrev pub dotted : Dotted → List Terminal
-dotted d = ident d.first ∷ dots d.others
+dotted name = ident name.first ∷ dots name.others
 
 -- [ "export" ], at its line
 abbrev pub export : Option ℕ → List Terminal
@@ -36,11 +36,11 @@ pub record ModuleDecl : Type 0 where
 -- [ ":" dotted ]
 abbrev pub partition : Option (ℕ × Dotted) → List Terminal
 partition None = []
-partition (Some p) = Colon p.0 ∷ dotted p.1
+partition (Some part) = Colon part.0 ∷ dotted part.1
 
 -- the terminals of a module declaration
 abbrev pub module_decl : ModuleDecl → List Terminal
-module_decl m = export m.exported ++ (Module m.line ∷ dotted m.name ++ (partition m.partition ++ Plain Semicolon ∷ []))
+module_decl declaration = export declaration.exported ++ (Module declaration.line ∷ dotted declaration.name ++ (partition declaration.partition ++ Plain Semicolon ∷ []))
 
 -- import = [ "export" ] "import" ( dotted | ":" dotted | string ) ";"
 pub data Imported : Type 0 where
@@ -56,18 +56,18 @@ pub record ImportTree : Type 0 where
 
 -- the terminals of what is imported
 abbrev pub imported : Imported → List Terminal
-imported (Whole d) = dotted d
-imported (Part colon d) = Colon colon ∷ dotted d
+imported (Whole name) = dotted name
+imported (Part line name) = Colon line ∷ dotted name
 imported (Header name line) = Quoted name line ∷ []
 
 -- the terminals of an import
 abbrev pub import_tree : ImportTree → List Terminal
-import_tree i = export i.exported ++ (Import i.line ∷ imported i.what ++ Plain Semicolon ∷ [])
+import_tree tree = export tree.exported ++ (Import tree.line ∷ imported tree.what ++ Plain Semicolon ∷ [])
 
 -- base = "void" | "bool" | "char" | "int" | "unsigned" | "long" | identifier
 pub data Base : Type 0 where
   Native : Base
-  Named : (i : Ident) → Base
+  Named : (identifier : Ident) → Base
 
 -- type = [ "const" ] base { "*" } [ "&" ]
 pub record TypeTree : Type 0 where
@@ -84,17 +84,17 @@ optional true key = Plain key ∷ []
 -- the terminal of a base
 abbrev pub base : Base → Terminal
 base Native = Plain BuiltIn
-base (Named i) = ident i
+base (Named identifier) = ident identifier
 
 -- the terminals of a type
 abbrev pub type_tree : TypeTree → List Terminal
-type_tree t = optional t.is_const Const ++ (base t.base ∷ replicate t.stars (Plain Star) ++ optional t.is_reference Ampersand)
+type_tree tree = optional tree.is_const Const ++ (base tree.base ∷ replicate tree.stars (Plain Star) ++ optional tree.is_reference Ampersand)
 
 -- [ type { "," type } ]
 abbrev pub parameters : List TypeTree → List Terminal
 parameters [] = []
-parameters (t ∷ []) = type_tree t
-parameters (t ∷ u ∷ ts) = type_tree t ++ Plain Comma ∷ parameters (u ∷ ts)
+parameters (first ∷ []) = type_tree first
+parameters (first ∷ next ∷ more) = type_tree first ++ Plain Comma ∷ parameters (next ∷ more)
 
 -- item = ( "struct" | "class" ) identifier ";"
 --      | "using" identifier "=" type ";"
@@ -108,15 +108,15 @@ pub data Item : Type 0 where
 
 -- an item before its ";"
 abbrev pub item_front : Item → List Terminal
-item_front (StructItem i) = Plain Struct ∷ ident i ∷ []
-item_front (ClassItem i) = Plain Class ∷ ident i ∷ []
-item_front (AliasItem i t) = Plain Using ∷ ident i ∷ Plain Equals ∷ type_tree t
-item_front (VariableItem t i) = type_tree t ++ ident i ∷ []
-item_front (FunctionItem t i ts) = type_tree t ++ (ident i ∷ Plain LeftParen ∷ parameters ts ++ Plain RightParen ∷ [])
+item_front (StructItem identifier) = Plain Struct ∷ ident identifier ∷ []
+item_front (ClassItem identifier) = Plain Class ∷ ident identifier ∷ []
+item_front (AliasItem identifier tree) = Plain Using ∷ ident identifier ∷ Plain Equals ∷ type_tree tree
+item_front (VariableItem tree identifier) = type_tree tree ++ ident identifier ∷ []
+item_front (FunctionItem tree identifier taken) = type_tree tree ++ (ident identifier ∷ Plain LeftParen ∷ parameters taken ++ Plain RightParen ∷ [])
 
 -- the terminals of an item
 abbrev pub item : Item → List Terminal
-item i = item_front i ++ Plain Semicolon ∷ []
+item tree = item_front tree ++ Plain Semicolon ∷ []
 
 -- decl = [ "export" ] item | "export" "{" { item } "}"
 pub data DeclTree : Type 0 where
@@ -125,7 +125,7 @@ pub data DeclTree : Type 0 where
 
 -- the terminals of a declaration
 abbrev pub decl_tree : DeclTree → List Terminal
-decl_tree (Single exported i) = export exported ++ item i
+decl_tree (Single exported tree) = export exported ++ item tree
 decl_tree (Group line items) = Export line ∷ Plain LeftBrace ∷ flat_map item items ++ Plain RightBrace ∷ []
 
 -- unit = [ mdecl ] { import } { decl }
@@ -137,19 +137,19 @@ pub record UnitTree : Type 0 where
 -- [ mdecl ]
 abbrev pub head : Option ModuleDecl → List Terminal
 head None = []
-head (Some m) = module_decl m
+head (Some declaration) = module_decl declaration
 
 -- the terminals of a unit
 abbrev pub unit_tree : UnitTree → List Terminal
-unit_tree u = head u.module_is ++ (flat_map import_tree u.imports ++ flat_map decl_tree u.decls)
+unit_tree tree = head tree.module_is ++ (flat_map import_tree tree.imports ++ flat_map decl_tree tree.decls)
 
 -- some unit begins with these tokens
 abbrev pub BeginsUnit : List Terminal → Type 0
-BeginsUnit tokens = (u : UnitTree) × (more : List Terminal) × (unit_tree u ≡ tokens ++ more)
+BeginsUnit tokens = (tree : UnitTree) × (more : List Terminal) × (unit_tree tree ≡ tokens ++ more)
 
--- the token at k is the first that no unit has after the tokens before it; at their number, it is the end
-pub record IsSyntaxFault (tokens : List Terminal) (k : ℕ) : Type 0 where
-  pub begins : BeginsUnit (take k tokens)
-  pub within : k ≤ length tokens
-  pub stuck : k < length tokens → BeginsUnit (take (k + 1) tokens) → ⊥
-  pub ended : k ≡ length tokens → (u : UnitTree) → unit_tree u ≡ tokens → ⊥
+-- the token at the place is the first that no unit has after the tokens before it; at their number, it is the end
+pub record IsSyntaxFault (tokens : List Terminal) (place : ℕ) : Type 0 where
+  pub begins : BeginsUnit (take place tokens)
+  pub within : place ≤ length tokens
+  pub stuck : place < length tokens → BeginsUnit (take (place + 1) tokens) → ⊥
+  pub ended : place ≡ length tokens → (tree : UnitTree) → unit_tree tree ≡ tokens → ⊥

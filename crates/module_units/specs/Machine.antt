@@ -1,6 +1,7 @@
 -- Reading a unit terminal by terminal: where a reader stands, and where one terminal takes it.
 use Rattle.std.specs.Prelude.{◌≡◌, ℕ, ◌<◌, Bool, true, false, List, [], ◌∷◌, ◌++◌, length, Option, Some, None, Result, Ok, Err, is_some}
 use Rattle.module_units.specs.Terminals.{Terminal, Name, Quoted, Export, Module, Import, Colon, Plain, Struct, Class, Using, Const, BuiltIn, Semicolon, Dot, Comma, LeftParen, RightParen, LeftBrace, RightBrace, Star, Ampersand, Equals}
+use Rattle.header_units.specs.Octets.{dot, colon}
 use Rattle.module_units.specs.Grammar.{Ident}
 use Rattle.module_units.specs.Unit.{TypeUse, UnitOf, declared, first_line, kind_of, headed, with_parts}
 use Rattle.module_units.specs.declared.parts.UnitKind.TheVariants as UnitKinds
@@ -31,141 +32,141 @@ named name line = record { name = name; line = line }
 
 -- a type's owner goes on where the type has ended
 abbrev pub after_type : Owner → List TypeUse → Terminal → ItemStep
-after_type (OfAlias i) types (Plain Semicolon) = Ends kinds.Alias i types
+after_type (OfAlias identifier) types (Plain Semicolon) = Ends kinds.Alias identifier types
 after_type OfDeclared types (Name name line) = Goes (AfterName types (named name line))
-after_type (OfParameter i) types (Plain Comma) = Goes (InType (OfParameter i) types Begin)
-after_type (OfParameter i) types (Plain RightParen) = Goes (WantsEnd kinds.Function i types)
-after_type owner types t = Fails
+after_type (OfParameter identifier) types (Plain Comma) = Goes (InType (OfParameter identifier) types Begin)
+after_type (OfParameter identifier) types (Plain RightParen) = Goes (WantsEnd kinds.Function identifier types)
+after_type owner types terminal = Fails
 
 -- a type, terminal by terminal
 abbrev pub type_step : Owner → List TypeUse → TypePlace → Terminal → ItemStep
 type_step owner types Begin (Plain Const) = Goes (InType owner types AfterConst)
 type_step owner types Begin (Plain BuiltIn) = Goes (InType owner types AfterBase)
 type_step owner types Begin (Name name line) = Goes (InType owner (types ++ record { name = name; line = line } ∷ []) AfterBase)
-type_step owner types Begin t = Fails
+type_step owner types Begin terminal = Fails
 type_step owner types AfterConst (Plain BuiltIn) = Goes (InType owner types AfterBase)
 type_step owner types AfterConst (Name name line) = Goes (InType owner (types ++ record { name = name; line = line } ∷ []) AfterBase)
-type_step owner types AfterConst t = Fails
+type_step owner types AfterConst terminal = Fails
 type_step owner types AfterBase (Plain Star) = Goes (InType owner types AfterBase)
 type_step owner types AfterBase (Plain Ampersand) = Goes (InType owner types AfterReference)
-type_step owner types AfterBase t = after_type owner types t
-type_step owner types AfterReference t = after_type owner types t
+type_step owner types AfterBase terminal = after_type owner types terminal
+type_step owner types AfterReference terminal = after_type owner types terminal
 
 -- an item, terminal by terminal, behind its first
 abbrev pub item_step : ItemPlace → Terminal → ItemStep
 item_step (WantsName kind) (Name name line) = Goes (WantsEnd kind (named name line) [])
 item_step WantsAliasName (Name name line) = Goes (WantsEquals (named name line))
-item_step (WantsEquals i) (Plain Equals) = Goes (InType (OfAlias i) [] Begin)
-item_step (InType owner types at) t = type_step owner types at t
-item_step (AfterName types i) (Plain Semicolon) = Ends kinds.Variable i types
-item_step (AfterName types i) (Plain LeftParen) = Goes (AfterOpen types i)
-item_step (AfterOpen types i) (Plain RightParen) = Goes (WantsEnd kinds.Function i types)
-item_step (AfterOpen types i) t = type_step (OfParameter i) types Begin t
-item_step (WantsEnd kind i types) (Plain Semicolon) = Ends kind i types
-item_step place t = Fails
+item_step (WantsEquals identifier) (Plain Equals) = Goes (InType (OfAlias identifier) [] Begin)
+item_step (InType owner types type_place) terminal = type_step owner types type_place terminal
+item_step (AfterName types identifier) (Plain Semicolon) = Ends kinds.Variable identifier types
+item_step (AfterName types identifier) (Plain LeftParen) = Goes (AfterOpen types identifier)
+item_step (AfterOpen types identifier) (Plain RightParen) = Goes (WantsEnd kinds.Function identifier types)
+item_step (AfterOpen types identifier) terminal = type_step (OfParameter identifier) types Begin terminal
+item_step (WantsEnd kind identifier types) (Plain Semicolon) = Ends kind identifier types
+item_step place terminal = Fails
 
 -- the first token of an item
 abbrev pub item_start : Terminal → ItemStep
 item_start (Plain Struct) = Goes (WantsName kinds.Struct)
 item_start (Plain Class) = Goes (WantsName kinds.Class)
 item_start (Plain Using) = Goes WantsAliasName
-item_start t = type_step OfDeclared [] Begin t
+item_start terminal = type_step OfDeclared [] Begin terminal
 
 -- the reader stands there
 abbrev pub at : UnitOf → Place → Option Parser
-at u p = Some (record { unit = u; place = p })
+at unit place = Some (record { unit = unit; place = place })
 
 -- whether an item in this place is exported
 abbrev pub context_marked : Context → Bool
-context_marked (Alone e) = is_some e
+context_marked (Alone export) = is_some export
 context_marked (Grouped line) = true
 
 -- where a reader stands behind the item
 abbrev pub after_item : Context → Place
-after_item (Alone e) = Between AtDecls
+after_item (Alone export) = Between AtDecls
 after_item (Grouped line) = InGroup line
 
 -- the step of an item, as a step of its unit
 abbrev pub lift : UnitOf → Context → ItemStep → Option Parser
-lift u c Fails = None
-lift u c (Goes p) = at u (InItem c p)
-lift u c (Ends kind i types) = at (with_parts u [] (declared (context_marked c) kind i types ∷ [])) (after_item c)
+lift unit context Fails = None
+lift unit context (Goes place) = at unit (InItem context place)
+lift unit context (Ends kind identifier types) = at (with_parts unit [] (declared (context_marked context) kind identifier types ∷ [])) (after_item context)
 
 -- the unit with one import more
 abbrev pub with_import : UnitOf → Option ℕ → ℕ → List ℕ → UnitOf
-with_import u e line name = with_parts u (record { exported = is_some e; name = name; line = first_line e line } ∷ []) []
+with_import unit export line name = with_parts unit (record { exported = is_some export; name = name; line = first_line export line } ∷ []) []
 
 -- one terminal more of a dotted name
 abbrev pub name_step : NamePlace → Terminal → Option NamePlace
-name_step (Wants so_far) (Name name l) = Some (Has (so_far ++ name))
-name_step (Has so_far) (Plain Dot) = Some (Wants (so_far ++ 46 ∷ []))
-name_step place t = None
+name_step (Wants so_far) (Name name line) = Some (Has (so_far ++ name))
+name_step (Has so_far) (Plain Dot) = Some (Wants (so_far ++ dot ∷ []))
+name_step place terminal = None
 
 -- a place in a name goes on
 abbrev pub in_name : (NamePlace → Place) → UnitOf → Option NamePlace → Option Parser
-in_name place u None = None
-in_name place u (Some n) = at u (place n)
+in_name place unit None = None
+in_name place unit (Some name_place) = at unit (place name_place)
 
 -- between the parts of a unit
 abbrev pub between : UnitOf → Stage → Terminal → Option Parser
-between u s (Export line) = at u (Exported s line)
-between u AtHead (Module line) = at u (InModule None line (Wants []))
-between u AtHead (Import line) = at u (AfterImport None line)
-between u AtImports (Import line) = at u (AfterImport None line)
-between u s t = lift u (Alone None) (item_start t)
+between unit stage (Export line) = at unit (Exported stage line)
+between unit AtHead (Module line) = at unit (InModule None line (Wants []))
+between unit AtHead (Import line) = at unit (AfterImport None line)
+between unit AtImports (Import line) = at unit (AfterImport None line)
+between unit stage terminal = lift unit (Alone None) (item_start terminal)
 
 -- behind an `export`
 abbrev pub exported : UnitOf → Stage → ℕ → Terminal → Option Parser
-exported u AtHead line (Module l) = at u (InModule (Some line) l (Wants []))
-exported u AtHead line (Import l) = at u (AfterImport (Some line) l)
-exported u AtImports line (Import l) = at u (AfterImport (Some line) l)
-exported u s line (Plain LeftBrace) = at u (InGroup line)
-exported u s line t = lift u (Alone (Some line)) (item_start t)
+exported unit AtHead export (Module token_line) = at unit (InModule (Some export) token_line (Wants []))
+exported unit AtHead export (Import token_line) = at unit (AfterImport (Some export) token_line)
+exported unit AtImports export (Import token_line) = at unit (AfterImport (Some export) token_line)
+exported unit stage export (Plain LeftBrace) = at unit (InGroup export)
+exported unit stage export terminal = lift unit (Alone (Some export)) (item_start terminal)
 
 -- in the name behind `module`
 abbrev pub in_module : UnitOf → Option ℕ → ℕ → NamePlace → Terminal → Option Parser
-in_module u e line (Has so_far) (Colon l) = at u (InPartition e line so_far (Wants []))
-in_module u e line (Has so_far) (Plain Semicolon) = at (headed (kind_of (is_some e) false) so_far [] (first_line e line)) (Between AtImports)
-in_module u e line n t = in_name (InModule e line) u (name_step n t)
+in_module unit export line (Has so_far) (Colon colon_line) = at unit (InPartition export line so_far (Wants []))
+in_module unit export line (Has so_far) (Plain Semicolon) = at (headed (kind_of (is_some export) false) so_far [] (first_line export line)) (Between AtImports)
+in_module unit export line name_place terminal = in_name (InModule export line) unit (name_step name_place terminal)
 
 -- in the name of a partition
 abbrev pub in_partition : UnitOf → Option ℕ → ℕ → List ℕ → NamePlace → Terminal → Option Parser
-in_partition u e line m (Has so_far) (Plain Semicolon) = at (headed (kind_of (is_some e) true) m so_far (first_line e line)) (Between AtImports)
-in_partition u e line m n t = in_name (InPartition e line m) u (name_step n t)
+in_partition unit export line module_name (Has so_far) (Plain Semicolon) = at (headed (kind_of (is_some export) true) module_name so_far (first_line export line)) (Between AtImports)
+in_partition unit export line module_name name_place terminal = in_name (InPartition export line module_name) unit (name_step name_place terminal)
 
 -- behind `import`
 abbrev pub after_import : UnitOf → Option ℕ → ℕ → Terminal → Option Parser
-after_import u e line (Name name l) = at u (InImport e line (Has name))
-after_import u e line (Colon l) = at u (InImport e line (Wants (u.module ++ 58 ∷ [])))
-after_import u e line (Quoted name l) = at u (AfterHeader e line name)
-after_import u e line t = None
+after_import unit export line (Name name token_line) = at unit (InImport export line (Has name))
+after_import unit export line (Colon token_line) = at unit (InImport export line (Wants (unit.module ++ colon ∷ [])))
+after_import unit export line (Quoted name token_line) = at unit (AfterHeader export line name)
+after_import unit export line terminal = None
 
 -- in the name of an import
 abbrev pub in_import : UnitOf → Option ℕ → ℕ → NamePlace → Terminal → Option Parser
-in_import u e line (Has so_far) (Plain Semicolon) = at (with_import u e line so_far) (Between AtImports)
-in_import u e line n t = in_name (InImport e line) u (name_step n t)
+in_import unit export line (Has so_far) (Plain Semicolon) = at (with_import unit export line so_far) (Between AtImports)
+in_import unit export line name_place terminal = in_name (InImport export line) unit (name_step name_place terminal)
 
 -- behind the string of an import
 abbrev pub after_header : UnitOf → Option ℕ → ℕ → List ℕ → Terminal → Option Parser
-after_header u e line name (Plain Semicolon) = at (with_import u e line name) (Between AtImports)
-after_header u e line name t = None
+after_header unit export line name (Plain Semicolon) = at (with_import unit export line name) (Between AtImports)
+after_header unit export line name terminal = None
 
 -- between the items of a group
 abbrev pub in_group : UnitOf → ℕ → Terminal → Option Parser
-in_group u line (Plain RightBrace) = at u (Between AtDecls)
-in_group u line t = lift u (Grouped line) (item_start t)
+in_group unit line (Plain RightBrace) = at unit (Between AtDecls)
+in_group unit line terminal = lift unit (Grouped line) (item_start terminal)
 
 -- one terminal more
 abbrev pub step : UnitOf → Place → Terminal → Option Parser
-step u (Between s) t = between u s t
-step u (Exported s line) t = exported u s line t
-step u (InModule e line n) t = in_module u e line n t
-step u (InPartition e line m n) t = in_partition u e line m n t
-step u (AfterImport e line) t = after_import u e line t
-step u (InImport e line n) t = in_import u e line n t
-step u (AfterHeader e line name) t = after_header u e line name t
-step u (InItem c p) t = lift u c (item_step p t)
-step u (InGroup line) t = in_group u line t
+step unit (Between stage) terminal = between unit stage terminal
+step unit (Exported stage line) terminal = exported unit stage line terminal
+step unit (InModule export line name_place) terminal = in_module unit export line name_place terminal
+step unit (InPartition export line module_name name_place) terminal = in_partition unit export line module_name name_place terminal
+step unit (AfterImport export line) terminal = after_import unit export line terminal
+step unit (InImport export line name_place) terminal = in_import unit export line name_place terminal
+step unit (AfterHeader export line name) terminal = after_header unit export line name terminal
+step unit (InItem context item_place) terminal = lift unit context (item_step item_place terminal)
+step unit (InGroup line) terminal = in_group unit line terminal
 
 -- nothing is read yet
 abbrev pub start : Parser
@@ -173,36 +174,36 @@ start = record { unit = headed UnitKinds.Plain [] [] 1; place = Between AtHead }
 
 -- the reader over terminals
 abbrev pub run : Option Parser → List Terminal → Option Parser
-run s [] = s
-run None (t ∷ ts) = None
-run (Some s) (t ∷ ts) = run (step s.unit s.place t) ts
+run parser [] = parser
+run None (terminal ∷ more) = None
+run (Some parser) (terminal ∷ more) = run (step parser.unit parser.place terminal) more
 
 -- a step of the program answers as a step of the definition, but for want of memory
 abbrev pub StepAnswer : Result Parser StepError → Option Parser → Type 0
-StepAnswer (Ok p) step = step ≡ Some p
-StepAnswer (Err errors.Syntax) step = step ≡ None
-StepAnswer (Err errors.Memory) step = Unit {0}
+StepAnswer (Ok parser) answer = answer ≡ Some parser
+StepAnswer (Err errors.Syntax) answer = answer ≡ None
+StepAnswer (Err errors.Memory) answer = Unit {0}
 
 -- and so does a step of a dotted name
 abbrev pub NameAnswer : Result NamePlace StepError → Option NamePlace → Type 0
-NameAnswer (Ok p) step = step ≡ Some p
-NameAnswer (Err errors.Syntax) step = step ≡ None
-NameAnswer (Err errors.Memory) step = Unit {0}
+NameAnswer (Ok place) answer = answer ≡ Some place
+NameAnswer (Err errors.Syntax) answer = answer ≡ None
+NameAnswer (Err errors.Memory) answer = Unit {0}
 
 -- a list of types can grow
 abbrev pub HasRoom : ItemPlace → Type 0
-HasRoom (InType owner types at) = length types < 2147483648
-HasRoom (AfterName types i) = length types < 2147483648
-HasRoom (AfterOpen types i) = length types < 2147483648
+HasRoom (InType owner types type_place) = length types < 2147483648
+HasRoom (AfterName types identifier) = length types < 2147483648
+HasRoom (AfterOpen types identifier) = length types < 2147483648
 HasRoom place = Unit {0}
 
 -- the lists of a place can grow
 abbrev pub PlaceHasRoom : Place → Type 0
-PlaceHasRoom (InItem c p) = HasRoom p
+PlaceHasRoom (InItem context item_place) = HasRoom item_place
 PlaceHasRoom place = Unit {0}
 
 -- the lists of a reader can grow
-pub record ParserHasRoom (p : Parser) : Type 0 where
-  pub place : PlaceHasRoom p.place
-  pub imports : length p.unit.imports < 2147483648
-  pub decls : length p.unit.decls < 2147483648
+pub record ParserHasRoom (parser : Parser) : Type 0 where
+  pub place : PlaceHasRoom parser.place
+  pub imports : length parser.unit.imports < 2147483648
+  pub decls : length parser.unit.decls < 2147483648

@@ -7,6 +7,7 @@ use Rattle.module_units.specs.Unit.{dotted_name, head_of, item_decl}
 pub use Rattle.module_units.specs.declared.faults.Fault.{Fault}
 use Rattle.module_units.specs.declared.parts.UnitKind.{UnitKind}
 use Rattle.module_units.specs.declared.parts.UnitKind.TheVariants.{Interface, PartitionInterface, Plain}
+use Rattle.header_units.specs.Octets.{colon}
 use Rattle.header_units.specs.Names.{name_kind, longest_name}
 use Rattle.header_units.specs.declared.name.NameKind.{NameKind}
 use Rattle.header_units.specs.declared.name.NameKind.TheVariants as names
@@ -50,56 +51,56 @@ is_header_name name = is_header_kind (name_kind name)
 
 -- a unit's name: its module's, with its partition behind a colon
 abbrev pub whole_name : List ℕ → Option (ℕ × Dotted) → List ℕ
-whole_name m None = m
-whole_name m (Some p) = m ++ 58 ∷ [] ++ dotted_name p.1
+whole_name module_name None = module_name
+whole_name module_name (Some part) = module_name ++ colon ∷ [] ++ dotted_name part.1
 
 -- the name of the unit
 abbrev pub head_faults : Option ModuleDecl → List Fault
 head_faults None = []
-head_faults (Some m) = length_faults m.name.first.line (whole_name (dotted_name m.name) m.partition)
+head_faults (Some declaration) = length_faults declaration.name.first.line (whole_name (dotted_name declaration.name) declaration.partition)
 
 -- what is imported
 abbrev pub what_faults : UnitKind → List ℕ → Imported → List Fault
-what_faults kind m (Whole d) = length_faults d.first.line (dotted_name d)
-what_faults Plain m (Part colon d) = fault_if true colon PartitionOutside
-what_faults kind m (Part colon d) = length_faults colon (m ++ 58 ∷ [] ++ dotted_name d)
-what_faults kind m (Header name line) = fault_if (not (is_header_name name)) line BadHeaderName
+what_faults kind module_name (Whole imported_name) = length_faults imported_name.first.line (dotted_name imported_name)
+what_faults Plain module_name (Part line imported_name) = fault_if true line PartitionOutside
+what_faults kind module_name (Part line imported_name) = length_faults line (module_name ++ colon ∷ [] ++ dotted_name imported_name)
+what_faults kind module_name (Header name line) = fault_if (not (is_header_name name)) line BadHeaderName
 
 -- the imports, of which before came before
 abbrev pub import_faults : UnitKind → List ℕ → ℕ → List ImportTree → List Fault
-import_faults kind m before [] = []
-import_faults kind m before (i ∷ is) = export_faults kind i.exported ++ fault_if (nat_le most_imports before) i.line TooManyImports ++ what_faults kind m i.what ++ import_faults kind m (before + 1) is
+import_faults kind module_name before [] = []
+import_faults kind module_name before (tree ∷ more) = export_faults kind tree.exported ++ fault_if (nat_le most_imports before) tree.line TooManyImports ++ what_faults kind module_name tree.what ++ import_faults kind module_name (before + 1) more
 
--- the items, behind declarations of these names
+-- the identifier that an item declares
 abbrev pub item_name_of : Item → Ident
-item_name_of i = record { name = (item_decl false i).name; line = (item_decl false i).line }
+item_name_of item = record { name = (item_decl false item).name; line = (item_decl false item).line }
 
 -- an item behind declarations of these names
 abbrev pub item_faults : List (List ℕ) → Item → List Fault
-item_faults earlier i = fault_if (list_any (bytes_eq (item_name_of i).name) earlier) (item_name_of i).line DuplicateName
+item_faults earlier item = fault_if (list_any (bytes_eq (item_name_of item).name) earlier) (item_name_of item).line DuplicateName
 
 -- items behind declarations of these names
 abbrev pub items_faults : List (List ℕ) → List Item → List Fault
 items_faults earlier [] = []
-items_faults earlier (i ∷ is) = item_faults earlier i ++ items_faults (earlier ++ (item_name_of i).name ∷ []) is
+items_faults earlier (item ∷ more) = item_faults earlier item ++ items_faults (earlier ++ (item_name_of item).name ∷ []) more
 
 -- the items of a declaration
 abbrev pub tree_items : DeclTree → List Item
-tree_items (Single e i) = i ∷ []
-tree_items (Group line is) = is
+tree_items (Single export item) = item ∷ []
+tree_items (Group line items) = items
 
 -- the "export" of a declaration
 abbrev pub tree_export : DeclTree → Option ℕ
-tree_export (Single e i) = e
-tree_export (Group line is) = Some line
+tree_export (Single export item) = export
+tree_export (Group line items) = Some line
 
 -- declarations behind those of these names
 abbrev pub decl_faults : UnitKind → List (List ℕ) → List DeclTree → List Fault
 decl_faults kind earlier [] = []
-decl_faults kind earlier (d ∷ ds) = export_faults kind (tree_export d) ++ items_faults earlier (tree_items d) ++ decl_faults kind (earlier ++ flat_map (λ i. (item_name_of i).name ∷ []) (tree_items d)) ds
+decl_faults kind earlier (tree ∷ more) = export_faults kind (tree_export tree) ++ items_faults earlier (tree_items tree) ++ decl_faults kind (earlier ++ flat_map (λ item. (item_name_of item).name ∷ []) (tree_items tree)) more
 
 -- all faults of a unit, in the order of the text
 abbrev pub faults_of : UnitTree → List Fault
-faults_of t =
-    let u = head_of t.module_is in
-    head_faults t.module_is ++ import_faults u.kind u.module (length u.imports) t.imports ++ decl_faults u.kind [] t.decls
+faults_of tree =
+    let unit = head_of tree.module_is in
+    head_faults tree.module_is ++ import_faults unit.kind unit.module (length unit.imports) tree.imports ++ decl_faults unit.kind [] tree.decls

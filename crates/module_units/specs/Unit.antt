@@ -1,6 +1,7 @@
 -- What a unit's tree says: its kind, name, imports and declarations.
 use Rattle.std.specs.Prelude.{ℕ, Bool, true, false, List, [], ◌∷◌, ◌++◌, map, Option, Some, None, is_some}
 use Rattle.std.specs.List.{flat_map}
+use Rattle.header_units.specs.Octets.{dot, colon}
 use Rattle.module_units.specs.Grammar.{Ident, Dotted, ModuleDecl, Imported, Whole, Part, Header, ImportTree, Base, Native, Named, TypeTree, Item, StructItem, ClassItem, AliasItem, VariableItem, FunctionItem, DeclTree, Single, Group, UnitTree}
 pub use Rattle.module_units.specs.declared.parts.TypeUse.{TypeUse}
 pub use Rattle.module_units.specs.declared.parts.Decl.{Decl}
@@ -13,7 +14,7 @@ use Rattle.module_units.specs.declared.parts.UnitKind.TheVariants.{Interface, Im
 
 -- identifiers joined by '.'
 abbrev pub dotted_name : Dotted → List ℕ
-dotted_name d = d.first.name ++ flat_map (λ i. 46 ∷ i.name) d.others
+dotted_name name = name.first.name ++ flat_map (λ identifier. dot ∷ identifier.name) name.others
 
 -- the line of the first token of what may begin with "export"
 abbrev pub first_line : Option ℕ → ℕ → ℕ
@@ -23,33 +24,33 @@ first_line (Some export) line = export
 -- the identifiers among the bases of types
 abbrev pub base_uses : Base → List TypeUse
 base_uses Native = []
-base_uses (Named i) = record { name = i.name; line = i.line } ∷ []
+base_uses (Named identifier) = record { name = identifier.name; line = identifier.line } ∷ []
 
 -- the identifiers that a type uses
 abbrev pub type_uses : TypeTree → List TypeUse
-type_uses t = base_uses t.base
+type_uses tree = base_uses tree.base
 
 -- a declaration
 abbrev pub declared : Bool → DeclKind → Ident → List TypeUse → Decl
-declared exported kind i types = record { exported = exported; kind = kind; name = i.name; line = i.line; types = types }
+declared exported kind identifier types = record { exported = exported; kind = kind; name = identifier.name; line = identifier.line; types = types }
 
 -- what an item declares
 abbrev pub item_decl : Bool → Item → Decl
-item_decl e (StructItem i) = declared e kinds.Struct i []
-item_decl e (ClassItem i) = declared e kinds.Class i []
-item_decl e (AliasItem i t) = declared e kinds.Alias i (type_uses t)
-item_decl e (VariableItem t i) = declared e kinds.Variable i (type_uses t)
-item_decl e (FunctionItem t i ts) = declared e kinds.Function i (type_uses t ++ flat_map type_uses ts)
+item_decl exported (StructItem identifier) = declared exported kinds.Struct identifier []
+item_decl exported (ClassItem identifier) = declared exported kinds.Class identifier []
+item_decl exported (AliasItem identifier tree) = declared exported kinds.Alias identifier (type_uses tree)
+item_decl exported (VariableItem tree identifier) = declared exported kinds.Variable identifier (type_uses tree)
+item_decl exported (FunctionItem tree identifier taken) = declared exported kinds.Function identifier (type_uses tree ++ flat_map type_uses taken)
 
 -- the declarations of a tree; all items of a group are exported
 abbrev pub tree_decls : DeclTree → List Decl
-tree_decls (Single exported i) = item_decl (is_some exported) i ∷ []
+tree_decls (Single exported item) = item_decl (is_some exported) item ∷ []
 tree_decls (Group line items) = map (item_decl true) items
 
 -- the name of a partition, empty where there is none
 abbrev pub some_partition : Option (ℕ × Dotted) → List ℕ
 some_partition None = []
-some_partition (Some p) = dotted_name p.1
+some_partition (Some part) = dotted_name part.1
 
 -- the kind of a unit of a module, by its "export" and its partition
 abbrev pub kind_of : Bool → Bool → UnitKind
@@ -58,11 +59,6 @@ kind_of true true = PartitionInterface
 kind_of false false = Implementation
 kind_of false true = PartitionImplementation
 
--- whether there is a partition
-abbrev pub has_partition : Option (ℕ × Dotted) → Bool
-has_partition None = false
-has_partition (Some p) = true
-
 -- an implementation unit imports its module's interface
 abbrev pub own_imports : UnitKind → List ℕ → ℕ → List ImportOf
 own_imports Implementation name line = record { exported = false; name = name; line = line } ∷ []
@@ -70,27 +66,27 @@ own_imports kind name line = []
 
 -- the name that is imported, in a unit of this module
 abbrev pub import_name : List ℕ → Imported → List ℕ
-import_name m (Whole d) = dotted_name d
-import_name m (Part colon d) = m ++ 58 ∷ [] ++ dotted_name d
-import_name m (Header name line) = name
+import_name module_name (Whole name) = dotted_name name
+import_name module_name (Part line name) = module_name ++ colon ∷ [] ++ dotted_name name
+import_name module_name (Header name line) = name
 
 -- an import, in a unit of this module
 abbrev pub import_of : List ℕ → ImportTree → ImportOf
-import_of m i = record { exported = is_some i.exported; name = import_name m i.what; line = first_line i.exported i.line }
+import_of module_name tree = record { exported = is_some tree.exported; name = import_name module_name tree.what; line = first_line tree.exported tree.line }
 
 -- a unit of this kind and these names, before its imports
 abbrev pub headed : UnitKind → List ℕ → List ℕ → ℕ → UnitOf
-headed kind m p line = record { kind = kind; «module» = m; partition = p; module_line = line; imports = own_imports kind m line; decls = [] }
+headed kind module_name part line = record { kind = kind; «module» = module_name; partition = part; module_line = line; imports = own_imports kind module_name line; decls = [] }
 
 -- the unit of a module declaration, before its imports
 abbrev pub head_of : Option ModuleDecl → UnitOf
 head_of None = headed Plain [] [] 1
-head_of (Some m) = headed (kind_of (is_some m.exported) (has_partition m.partition)) (dotted_name m.name) (some_partition m.partition) (first_line m.exported m.line)
+head_of (Some declaration) = headed (kind_of (is_some declaration.exported) (is_some declaration.partition)) (dotted_name declaration.name) (some_partition declaration.partition) (first_line declaration.exported declaration.line)
 
 -- a unit with imports and declarations more
 abbrev pub with_parts : UnitOf → List ImportOf → List Decl → UnitOf
-with_parts u is ds = record { kind = u.kind; «module» = u.module; partition = u.partition; module_line = u.module_line; imports = u.imports ++ is; decls = u.decls ++ ds }
+with_parts unit more_imports more_decls = record { kind = unit.kind; «module» = unit.module; partition = unit.partition; module_line = unit.module_line; imports = unit.imports ++ more_imports; decls = unit.decls ++ more_decls }
 
 -- the unit that a tree is
 abbrev pub unit_of : UnitTree → UnitOf
-unit_of t = let u = head_of t.module_is in with_parts u (map (import_of u.module) t.imports) (flat_map tree_decls t.decls)
+unit_of tree = let unit = head_of tree.module_is in with_parts unit (map (import_of unit.module) tree.imports) (flat_map tree_decls tree.decls)

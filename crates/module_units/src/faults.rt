@@ -4,6 +4,7 @@ ghost use Rattle.std.specs.Prelude.{◌≡◌, ◌++◌, [], ◌∷◌, nat_lt, 
 ghost use Rattle.module_units.specs.Machine.{item_step};
 ghost use Rattle.module_units.specs.Rules.{can_export, is_header_name, export_faults, fault_if, length_faults};
 ghost use Rattle.header_units.specs.Names.{longest_name};
+ghost use Rattle.header_units.specs.Octets.{colon};
 ghost use Rattle.module_units.specs.Unit.{UnitOf};
 ghost use Rattle.module_units.specs.FaultRuns.{line_in, is_semicolon, behind, import_length, too_many, ended, ended_ident, exported_faults, after_import_faults, fault_step, first_fault, names_of};
 ghost use Rattle.module_lexer.specs.declared.reason.SourceReason.TheVariants.{NameTooLong};
@@ -105,7 +106,7 @@ fn length_fault(line: u32, len: usize) -> Option<Fault>
 
 /// The fault of a partition's name that is too long, its module's name counted.
 fn partition_fault(line: u32, module: &[u8], partition: &[u8]) -> Option<Fault>
-    ensures { result ≡ first_fault (length_faults line («module».now ++ 58 ∷ [] ++ partition.now)) }
+    ensures { result ≡ first_fault (length_faults line («module».now ++ colon ∷ [] ++ partition.now)) }
 {
     length_fault(line, module.len() + 1 + partition.len())
 }

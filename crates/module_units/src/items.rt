@@ -38,7 +38,7 @@ fn type_step(
     terminal: Terminal,
 ) -> Result<ItemStep, Memory>
     requires { length types < 2147483648 }
-    ensures { IfOk result (λ s. s ≡ type_step owner types at terminal) }
+    ensures { IfOk result (λ answer. answer ≡ type_step owner types at terminal) }
 {
     match (at, terminal) {
         (TypePlace::Begin, Terminal::Plain(Key::Const)) => Ok(ItemStep::Goes(ItemPlace::InType(
@@ -75,7 +75,7 @@ pub(crate) fn item_step(
     terminal: Terminal,
 ) -> Result<ItemStep, Memory>
     requires { HasRoom place }
-    ensures { IfOk result (λ s. s ≡ item_step place terminal) }
+    ensures { IfOk result (λ answer. answer ≡ item_step place terminal) }
 {
     match (place, terminal) {
         (ItemPlace::WantsName(kind), Terminal::Name(name, line)) => Ok(ItemStep::Goes(
@@ -109,7 +109,7 @@ pub(crate) fn item_step(
 
 /// Where the first terminal of an item takes its reader. `Memory` is want of memory.
 pub(crate) fn item_start(alloc: Global, terminal: Terminal) -> Result<ItemStep, Memory>
-    ensures { IfOk result (λ s. s ≡ item_start terminal) }
+    ensures { IfOk result (λ answer. answer ≡ item_start terminal) }
 {
     match terminal {
         Terminal::Plain(Key::Struct) => Ok(ItemStep::Goes(ItemPlace::WantsName(DeclKind::Struct))),

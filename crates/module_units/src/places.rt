@@ -98,7 +98,7 @@ impl From<Memory> for StepError {
     ghost use Rattle.std.specs.Prelude.{◌≡◌};
     ghost use Rattle.module_units.specs.declared.places.StepError.TheVariants.{Memory};
 
-    ghost from_gives = { λ _ e. e ≡ Memory };
+    ghost from_gives = { λ _ error. error ≡ Memory };
 
     fn from(_want: Memory) -> Self {
         StepError::Memory

@@ -9,7 +9,7 @@ use mm_outside::{Memory, Text};
 use module_lexer::{Token, TokenKind};
 use std::alloc::Global;
 
-/// The terminal that a reserved word is.
+/// The terminal that a reserved word is. Those that name a type are one terminal.
 fn word_terminal(word: &[u8], line: u32) -> Terminal
     ensures { result ≡ spelled_as words BuiltIn word.now line }
 {
@@ -32,7 +32,7 @@ fn word_terminal(word: &[u8], line: u32) -> Terminal
     }
 }
 
-/// The terminal that a punctuator is.
+/// The terminal that a punctuator is. The last of them is `=`.
 fn mark_terminal(mark: &[u8], line: u32) -> Terminal
     ensures { result ≡ spelled_as marks Equals mark.now line }
 {

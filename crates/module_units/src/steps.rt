@@ -200,7 +200,7 @@ fn headed(
     partition: Text,
     module_line: u32,
 ) -> Result<Unit, Memory>
-    ensures { IfOk result (λ u. u ≡ headed kind «module» partition module_line) }
+    ensures { IfOk result (λ unit. unit ≡ headed kind «module» partition module_line) }
 {
     let mut imports = List::new(alloc);
     if kind == UnitKind::Implementation {

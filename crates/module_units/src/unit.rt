@@ -1,7 +1,7 @@
 //! A unit, and the reading of a source.
 
 ghost use Rattle.std.specs.Prelude.{◌≡◌, ◌<◌, ◌≤◌, length, slice_range, IfOk, IfErr};
-ghost use Rattle.module_lexer.specs.Tokens.{HasTokens, line_of};
+ghost use Rattle.module_lexer.specs.Tokens.{HasTokens};
 ghost use Rattle.module_units.specs.Machine.{ParserHasRoom};
 ghost use Rattle.module_units.specs.Reading.{seen, ReadsUnit, RefusesSource};
 ghost use Rattle.module_units.specs.Readers.{IsReader, TakesOnLine, HasRead, finished};
@@ -11,7 +11,7 @@ use crate::places::{Parser, Place, StepError};
 use crate::reader::Reader;
 use crate::spelling::terminal_of;
 use mm_outside::{List, Memory, Text};
-use module_lexer::{LexFault, Lexed, SourceReason, Token};
+use module_lexer::{LexFault, Lexed, SourceReason, Token, end_line};
 use std::alloc::Global;
 
 /// A unit of the subset.
@@ -35,7 +35,12 @@ pub struct Unit {
 #[derive(Clone, Copy, Debug, PartialEq, Eq)]
 pub enum SourceError {
     /// The source's first fault, and its line, counted from 1.
-    Text { line: u32, reason: SourceReason },
+    Text {
+        /// The line of the place at fault.
+        line: u32,
+        /// Why the source is no unit there.
+        reason: SourceReason,
+    },
     /// Memory ran out. This may come for any source.
     Memory,
 }
@@ -44,7 +49,7 @@ impl From<Memory> for SourceError {
     ghost use Rattle.std.specs.Prelude.{◌≡◌};
     ghost use Rattle.module_units.specs.declared.unit.SourceError.TheVariants as errors;
 
-    ghost from_gives = { λ _ e. e ≡ errors.Memory };
+    ghost from_gives = { λ _ error. error ≡ errors.Memory };
 
     fn from(_memory: Memory) -> SourceError {
         SourceError::Memory
@@ -55,7 +60,7 @@ impl From<LexFault> for SourceError {
     ghost use Rattle.std.specs.Prelude.{◌≡◌};
     ghost use Rattle.module_units.specs.Reading.{of_lexical};
 
-    ghost from_gives = { λ fault e. e ≡ of_lexical fault };
+    ghost from_gives = { λ fault error. error ≡ of_lexical fault };
 
     fn from(fault: LexFault) -> SourceError {
         match fault {
@@ -63,14 +68,6 @@ impl From<LexFault> for SourceError {
             LexFault::Memory => SourceError::Memory,
         }
     }
-}
-
-/// The line of the end of the text.
-fn end_line(text: &[u8]) -> u32
-    requires { length text.now ≤ 2147483648 }
-    ensures { result ≡ line_of text.now (length text.now) }
-{
-    1 + text.iter().filter(|octet| **octet == b'\n').count() as u32
 }
 
 /// One token more of the text.
@@ -105,8 +102,8 @@ fn read_tokens(alloc: Global, text: &[u8], lexed: &Lexed) -> Result<Reader, Sour
     ensures refused { IfErr result (RefusesSource text.now) }
 {
     let mut reader = Reader::new(alloc);
-    for k in 0..lexed.len() {
-        reader = read_token(alloc, text, reader, lexed.token(k))?;
+    for index in 0..lexed.len() {
+        reader = read_token(alloc, text, reader, lexed.token(index))?;
     }
     Ok(reader)
 }
@@ -133,10 +130,10 @@ fn finish(reader: Reader, line: u32) -> Result<Unit, SourceError>
 impl Unit {
     /// The unit that a source is, or the source's first fault.
     ///
-    /// The octets are read as tokens first, then the tokens as a unit by the grammar, and the unit is
-    /// checked last. A fault of an earlier step comes first, and in a step the first by place. `Syntax`
-    /// is told on the line of the first token that no unit has after the tokens before it, or on the
-    /// line of the text's end. The checks are `ExportOutside` on the line of the `export`,
+    /// A source has at most 2,147,483,648 octets. They are read as tokens first, then the tokens as a
+    /// unit by the grammar, and the unit is checked last. A fault of an earlier step comes first, and in
+    /// a step the first by place. `Syntax` is told on the line of the first token that no unit has after
+    /// the tokens before it, or on the line of the text's end. The checks are `ExportOutside` on the line of the `export`,
     /// `PartitionOutside` on that of the `:`, `BadHeaderName` on that of the string, `NameTooLong` on
     /// that of the token behind `module` or `import`, `TooManyImports` on that of the `import`, and
     /// `DuplicateName` on that of the later identifier.
