@@ -1,0 +1,15 @@
+use Rattle.std.proofs.Common.{arith}
+use Rattle.export_lists.specs.Lists.{imported, brings}
+use Rattle.export_lists.specs.Lent.{lent}
+use Rattle.export_lists.proofs.Loops.{import_at}
+use Rattle.export_lists.proofs.Names.{more_types, all_types}
+use Rattle.export_lists.proofs.compile.types_brought.Goals as goal
+
+pub loop-k-preserved : goal.loop-k-preserved
+loop-k-preserved c =
+    more_types (brings c.args.unit.now) _ _ (imported c.args.unit.now (lent c.args.cmis.now)) c.loop-k.k (c.get.result.now, c.index-cmis-k.result.now) c.brings-listed.result.now
+    (import_at c.args.unit.now c.args.cmis.now c.loop-k.k c.get.result.now c.index-cmis-k.result c.requires (omega arith) c.get.ensures c.index-cmis-k.is)
+    c.brings-listed.ensures c.loop-k.invariant c.in_ok-add_listed.ensures
+
+pub returns : goal.returns
+returns c = all_types (brings c.args.unit.now) c.loop-k.types c.args.unit.now (lent c.args.cmis.now) c.loop-k.k (omega arith) c.loop-k.invariant

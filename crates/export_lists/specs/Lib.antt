@@ -1,0 +1,15 @@
+pub mod Entries
+pub mod Keys
+pub mod Lists
+pub mod Faults
+pub mod Compiling
+pub mod Lent
+pub mod Types
+pub mod Sources
+pub mod Outcomes
+pub mod Words
+pub mod CmiTexts
+pub mod Reports
+pub mod Worked
+pub mod Generated
+pub mod Drawings
