@@ -1,4 +1,8 @@
+pub mod Rows
 pub mod LineLemmas
 pub mod TakeLemmas
-pub mod ReplyLemmas
-pub mod AnswerLemmas
+pub mod Enterings
+pub mod Lookings
+pub mod Answering
+pub mod Askable
+pub mod Sessioning

@@ -1,6 +1,6 @@
--- What a session takes of a piece.
+-- What a reader of blocks takes of a piece.
 use Rattle.std.proofs.Common.{◌≡◌, ◌≢◌, ℕ, ◌+◌, ◌-◌, ◌<◌, ◌≤◌, true, false, List, [], ◌∷◌, ◌++◌, length, map, take, drop, refl, sym, ap, subst, ◌∙◌, append_assoc, arith, All, Some}
-use Rattle.std.proofs.lemmas.List.{length-append, length_push, append-nil, length-take, take-append-drop}
+use Rattle.std.proofs.lemmas.List.{length-append, length_push, append-nil, length-take, take-append-drop, take-append-le}
 use Rattle.std.proofs.Math.Seq.{take-add}
 use Rattle.cody_words.specs.Octets.{newline}
 use Rattle.cody_batches.specs.Blocks.{blocks, has_long_block, most_octets, taken}
@@ -8,48 +8,43 @@ use Rattle.cody_batches.specs.Feeding.{Standing as IntakeStanding, StandsAfter a
 use Rattle.cody_batches.proofs.BlockLaws.{run_within}
 use Rattle.cody_batches.proofs.Cuts.{blocks_grow}
 use Rattle.cody_batches.proofs.LimitLaws.{taken_at_octets_limit, taken_at_lines_limit}
-use Rattle.connection_core.specs.declared.session.Stage.{Stage}
-use Rattle.connection_core.specs.declared.session.Stage.TheVariants as stage
-use Rattle.connection_core.specs.Asking.{asked_by}
-use Rattle.connection_core.specs.Answers.{answers, connected_after}
+use Rattle.connection_core.specs.declared.block_reader.Stage.{Stage}
+use Rattle.connection_core.specs.declared.block_reader.Stage.TheVariants as stage
+use Rattle.unit_registry.specs.Projects.{ProjectView}
+use Rattle.connection_core.specs.declared.asked.Asked.{Asked}
+use Rattle.connection_core.specs.Asking.{Block, asked_of}
 use Rattle.connection_core.specs.declared.conn_end.ConnEnd.{ConnEnd}
-use Rattle.connection_core.specs.Standing.{Standing, StandsAfter, IsIdle, Keeps, end_in, ended}
-use Rattle.connection_core.specs.declared.conn_end.ConnEnd.TheVariants.{Closed, Truncated, ReadFault, WriteFault, TooLong, BatchTooLong}
+use Rattle.connection_core.specs.Standing.{ReaderState, ReaderStands, Keeps}
+use Rattle.connection_core.specs.declared.conn_end.ConnEnd.TheVariants.{Closed, Truncated, ReadFault, WriteFault, TooLong, BatchTooLong, HistoryFull}
 use Rattle.connection_core.specs.declared.conn_end.Took.{Took}
 use Rattle.connection_core.specs.declared.conn_end.Took.TheVariants as took
-use Rattle.connection_core.specs.Taking.{Takes, TakesAll, TakesBlock, PassesLines, PassesOctets}
+use Rattle.connection_core.specs.Taking.{Takes, TakesAll, TakesBlock, EndsBlock, CountsTaken, PassesLines, PassesOctets}
 use Rattle.connection_core.specs.Working.{GoesOn, TakesLines}
 use Rattle.connection_core.proofs.LineLemmas.{reads_of, moved}
 
--- the session behind octets within a line
-abbrev pub with_run : Standing → IntakeStanding → List ℕ → Stage → Standing
-with_run s intake run at = record { intake = intake; taken = s.taken + length run; connected = s.connected; asked = s.asked; stage = at }
+-- the reader behind octets within a line
+abbrev pub with_run : ReaderState → IntakeStanding → List ℕ → Stage → ReaderState
+with_run s intake run at = record { intake = intake; taken = s.taken + length run; asked = s.asked; stage = at }
 
-pub run_goes_on : (s : Standing) (intake : IntakeStanding) (run fed answered : List ℕ) → s.stage ≡ stage.Reading → All (λ octet. octet ≢ newline) run
-    → ((fed : List ℕ) → IntakeStandsAfter s.intake fed → IntakeStandsAfter intake (fed ++ run)) → StandsAfter s fed answered → GoesOn fed answered run (with_run s intake run s.stage)
-run_goes_on s intake run fed answered reading clean ran h =
+pub run_goes_on : (s : ReaderState) (intake : IntakeStanding) (run : List ℕ) (project : ProjectView) (fed : List ℕ) → s.stage ≡ stage.Reading → All (λ octet. octet ≢ newline) run
+    → ((fed : List ℕ) → IntakeStandsAfter s.intake fed → IntakeStandsAfter intake (fed ++ run)) → ReaderStands s project fed → GoesOn project fed run (with_run s intake run s.stage)
+run_goes_on s intake run project fed reading clean ran h =
     let law = run_within fed run clean in
-    let kept = reads_of s fed answered reading h in
+    let kept = reads_of s project fed reading h in
     record {
       stands = record {
         intake = ran fed h.intake;
         fits = law.3 ∙ h.fits;
         count = omega (arith, h.count, length-append fed run);
-        keeps = subst (λ t. Keeps t (with_run s intake run s.stage) (fed ++ run) answered) (sym reading) (record {
-          before = record {
-            answers_are = kept.before.answers_are ∙ ap answers (sym law.0);
-            connected_is = kept.before.connected_is ∙ ap (connected_after false) (sym law.0);
-          };
-          kept = kept.kept ∙ ap (map asked_by) (sym law.1);
-        });
+        keeps = subst (λ t. Keeps t (with_run s intake run s.stage) project (fed ++ run)) (sym reading) (record { kept = kept.kept ∙ ap (asked_of project) (sym law.1) });
       };
       none_ended = law.0;
     }
 
 -- octets go on behind others
-pub then_goes_on : (s new : Standing) (fed answered first second : List ℕ) → GoesOn fed answered first s
-    → (StandsAfter s (fed ++ first) answered → GoesOn (fed ++ first) answered second new) → GoesOn fed answered (first ++ second) new
-then_goes_on s new fed answered first second h go =
+pub then_goes_on : (s new : ReaderState) (project : ProjectView) (fed first second : List ℕ) → GoesOn project fed first s
+    → (ReaderStands s project (fed ++ first) → GoesOn project (fed ++ first) second new) → GoesOn project fed (first ++ second) new
+then_goes_on s new project fed first second h go =
     let after = go h.stands in
     record {
       stands = moved (append_assoc fed first second) after.stands;
@@ -102,29 +97,33 @@ line_at piece rest run used tail back le text =
       whole = whole;
     }
 
-module _ (s new : Standing) (fed answered piece run : List ℕ) (used : ℕ) (at : LineAt piece used run) (clean : All (λ octet. octet ≢ newline) run)
-    (before : GoesOn fed answered (take used piece) s) where
+module _ (s new : ReaderState) (project : ProjectView) (fed piece run : List ℕ) (used : ℕ) (at : LineAt piece used run) (clean : All (λ octet. octet ≢ newline) run)
+    (before : GoesOn project fed (take used piece) s) where
   -- the octets up to the line
   text_goes_on : blocks (fed ++ (take used piece ++ run)) ≡ blocks fed
   text_goes_on = ap blocks (sym (append_assoc fed (take used piece) run)) ∙ (run_within (fed ++ take used piece) run clean).0 ∙ before.none_ended
 
-  pub line_goes_on : StandsAfter new ((fed ++ take used piece) ++ (run ++ newline ∷ [])) answered → blocks ((fed ++ take used piece) ++ (run ++ newline ∷ [])) ≡ blocks (fed ++ take used piece)
-      → GoesOn fed answered (take (used + (length run + 1)) piece) new
+  pub line_goes_on : ReaderStands new project ((fed ++ take used piece) ++ (run ++ newline ∷ [])) → blocks ((fed ++ take used piece) ++ (run ++ newline ∷ [])) ≡ blocks (fed ++ take used piece)
+      → GoesOn project fed (take (used + (length run + 1)) piece) new
   line_goes_on stands same =
-      subst (λ o. GoesOn fed answered o new) (sym at.next) (then_goes_on s new fed answered (take used piece) (run ++ newline ∷ []) before (λ _. record { stands = stands; none_ended = same }))
+      subst (λ o. GoesOn project fed o new) (sym at.next) (then_goes_on s new project fed (take used piece) (run ++ newline ∷ []) before (λ _. record { stands = stands; none_ended = same }))
 
-  pub line_ends_block : StandsAfter new ((fed ++ take used piece) ++ (run ++ newline ∷ [])) answered
-      → (block : List (List ℕ)) → blocks ((fed ++ take used piece) ++ (run ++ newline ∷ [])) ≡ blocks (fed ++ take used piece) ++ block ∷ []
-      → TakesBlock fed answered piece (used + (length run + 1)) new
-  line_ends_block stands block one =
+  pub line_ends_block : ReaderStands new project ((fed ++ take used piece) ++ (run ++ newline ∷ []))
+      → (block : Block) → blocks ((fed ++ take used piece) ++ (run ++ newline ∷ [])) ≡ blocks (fed ++ take used piece) ++ block ∷ [] → new.asked ≡ asked_of project block
+      → TakesBlock project fed piece (used + (length run + 1)) new
+  line_ends_block stands block one kept =
       let there : (fed ++ take used piece) ++ (run ++ newline ∷ []) ≡ fed ++ take (used + (length run + 1)) piece =
       append_assoc fed (take used piece) (run ++ newline ∷ []) ∙ ap (λ xs. fed ++ xs) (sym at.next) in
       record {
-        some = omega arith;
-        within = at.within;
+        block = block;
+        ends = record {
+          some = omega arith;
+          within = at.within;
+          one_ended = ap blocks (sym there) ∙ one ∙ ap (λ (bs : List Block). bs ++ block ∷ []) before.none_ended;
+          none_before = λ n lt. none n lt;
+        };
         stands = moved there stands;
-        one_ended = (block, ap blocks (sym there) ∙ one ∙ ap (λ (bs : List (List (List ℕ))). bs ++ block ∷ []) before.none_ended);
-        none_before = λ n lt. none n lt;
+        kept = kept;
       }
     where
       none : (n : ℕ) → n < used + (length run + 1) → blocks (fed ++ take n piece) ≡ blocks fed
@@ -152,20 +151,21 @@ module _ (s new : Standing) (fed answered piece run : List ℕ) (used : ℕ) (at
 -- ---- the whole piece
 
 -- a piece that passes no limit of octets
-pub takes_lines : (fed answered piece : List ℕ) (answer : Took) (new : Standing) → TakesLines fed answered piece answer new → Takes fed answered piece answer new
-takes_lines fed answered piece took.All new h = h
-takes_lines fed answered piece (took.Block used) new h = h
-takes_lines fed answered piece (took.Ended TooLong) new h = absurd h
-takes_lines fed answered piece (took.Ended BatchTooLong) new h = subst (PassesLines fed) (append-nil piece) (h [])
-takes_lines fed answered piece (took.Ended Closed) new h = absurd h
-takes_lines fed answered piece (took.Ended (Truncated lines)) new h = absurd h
-takes_lines fed answered piece (took.Ended ReadFault) new h = absurd h
-takes_lines fed answered piece (took.Ended WriteFault) new h = absurd h
+pub takes_lines : (project : ProjectView) (fed piece : List ℕ) (answer : Took) (new : ReaderState) → TakesLines project fed piece answer new → Takes project fed piece answer new
+takes_lines project fed piece took.All new h = h
+takes_lines project fed piece (took.Block used) new h = h
+takes_lines project fed piece (took.Ended TooLong) new h = absurd h
+takes_lines project fed piece (took.Ended BatchTooLong) new h = subst (PassesLines fed) (append-nil piece) (h [])
+takes_lines project fed piece (took.Ended Closed) new h = absurd h
+takes_lines project fed piece (took.Ended (Truncated lines)) new h = absurd h
+takes_lines project fed piece (took.Ended ReadFault) new h = absurd h
+takes_lines project fed piece (took.Ended WriteFault) new h = absurd h
+takes_lines project fed piece (took.Ended (HistoryFull entries kept)) new h = absurd h
 
 -- as many octets as may come, and one more
-pub passes_octets : (s new : Standing) (fed answered piece front back : List ℕ) → piece ≡ front ++ back → StandsAfter s fed answered
-    → s.taken + length front ≡ most_octets → length front < length piece → TakesAll fed answered front new → PassesOctets fed piece
-passes_octets s new fed answered piece front back e h full lt all =
+pub passes_octets : (s new : ReaderState) (project : ProjectView) (fed piece front back : List ℕ) → piece ≡ front ++ back → ReaderStands s project fed
+    → s.taken + length front ≡ most_octets → length front < length piece → TakesAll project fed front new → PassesOctets fed piece
+passes_octets s new project fed piece front back e h full lt all =
     let there : (fed ++ front) ++ back ≡ fed ++ piece = append_assoc fed front back ∙ ap (λ xs. fed ++ xs) (sym e) in
     let law = taken_at_octets_limit (fed ++ front) back (length-append fed front ∙ omega (arith, h.count, full)) all.stands.fits in
     record {
@@ -174,12 +174,31 @@ passes_octets s new fed answered piece front back e h full lt all =
       fits = ap (λ xs. has_long_block (take most_octets xs)) (sym there) ∙ law.1;
     }
 
--- a session that has ended has this stage
-pub ended_stage : (at : Stage) (how : ConnEnd) → end_in at ≡ Some how → at ≡ stage.Ended how
-ended_stage stage.Reading how e = cc
-ended_stage stage.Waiting how e = cc
-ended_stage (stage.Ended other) how e = cc
+front_ends : (fed piece front back : List ℕ) (used : ℕ) (block : Block) → piece ≡ front ++ back → EndsBlock fed front used block → EndsBlock fed piece used block
+front_ends fed piece front back used block e h =
+    let at : (n : ℕ) → n ≤ length front → take n front ≡ take n piece = λ n le. sym (take-append-le n front back le) ∙ ap (take n) (sym e) in
+    record {
+      some = h.some;
+      within = omega (arith, h.within, ap length e, length-append front back);
+      one_ended = ap (λ xs. blocks (fed ++ xs)) (sym (at used h.within)) ∙ h.one_ended;
+      none_before = λ n lt. ap (λ xs. blocks (fed ++ xs)) (sym (at n (omega (arith, h.within, lt)))) ∙ h.none_before n lt;
+    }
 
--- a session that has ended has no block that waits
-pub ended_idle : (s : Standing) (how : ConnEnd) → ended s ≡ Some how → IsIdle s
-ended_idle s how e waits = cc (ended_stage s.stage how e, waits)
+-- what comes within the octets that may come, where not all of them are taken
+pub front_takes : (project : ProjectView) (fed piece front back : List ℕ) (answer : Took) (new : ReaderState) → piece ≡ front ++ back → (answer ≡ took.All → ⊥) → TakesLines project fed front answer new → Takes project fed piece answer new
+front_takes project fed piece front back took.All new e some h = absurd (some refl)
+front_takes project fed piece front back (took.Block used) new e some h =
+    let at : take used front ≡ take used piece = sym (take-append-le used front back h.ends.within) ∙ ap (take used) (sym e) in
+    record { block = h.block; ends = front_ends fed piece front back used h.block e h.ends; stands = moved (ap (λ xs. fed ++ xs) at) h.stands; kept = h.kept }
+front_takes project fed piece front back (took.Ended TooLong) new e some h = absurd h
+front_takes project fed piece front back (took.Ended BatchTooLong) new e some h = subst (PassesLines fed) (sym e) (h back)
+front_takes project fed piece front back (took.Ended Closed) new e some h = absurd h
+front_takes project fed piece front back (took.Ended (Truncated lines)) new e some h = absurd h
+front_takes project fed piece front back (took.Ended ReadFault) new e some h = absurd h
+front_takes project fed piece front back (took.Ended WriteFault) new e some h = absurd h
+front_takes project fed piece front back (took.Ended (HistoryFull entries kept)) new e some h = absurd h
+
+pub front_counts : (less more : ℕ) (answer : Took) (old new : ℕ) → less ≤ more → (answer ≡ took.All → ⊥) → CountsTaken less answer old new → CountsTaken more answer old new
+front_counts less more took.All old new le some h = absurd (some refl)
+front_counts less more (took.Block used) old new le some h = (h.0, h.1, omega (arith, h.2, le))
+front_counts less more (took.Ended how) old new le some h = tt

@@ -1,95 +1,108 @@
--- What is answered to blocks, by a server that knows two requests.
-use Rattle.std.specs.Prelude.{ℕ, ◌+◌, ◌==◌, Bool, true, false, not, List, [], ◌∷◌, ◌++◌, Option, Some, None, length, map, position, codes, decimal}
+-- The octets in which the blocks of a connection are answered.
+use Rattle.std.specs.Prelude.{ℕ, ◌+◌, ◌&&◌, ◌==◌, Bool, true, false, if◌then◌else◌, List, [], ◌∷◌, ◌++◌, length, drop, position, Option, Some, None, unwrap_or}
 use Rattle.std.specs.Option.{option_map}
-use Rattle.cody_words.specs.declared.reason.Reason.{Reason}
-use Rattle.cody_words.specs.Canonical.{canonical_line}
-use Rattle.cody_words.specs.Reasons.{reason_text}
-use Rattle.connection_core.specs.declared.asking.Request.{Request}
-use Rattle.connection_core.specs.declared.asking.Request.TheVariants.{Hello, Repo, Unknown}
-use Rattle.connection_core.specs.declared.asking.Asked.{Asked}
-use Rattle.connection_core.specs.declared.asking.Asked.TheVariants.{Request as Requests, Malformed}
-use Rattle.connection_core.specs.Asking.{asked_by}
+use Rattle.unit_registry.specs.declared.act.Act.{Act as Acts}
+use Rattle.unit_registry.specs.declared.act.Act.TheVariants.{Open, Pause, Left, Lost, Done}
+use Rattle.unit_registry.specs.Projects.{ProjectView}
+use Rattle.histories.specs.declared.answer.Answer.{Answer}
+use Rattle.histories.specs.declared.entry.Entry.{Entry}
+use Rattle.histories.specs.Histories.{reply}
+use Rattle.connection_replies.specs.declared.line_reply.LineReply.{LineReply}
+use Rattle.connection_replies.specs.declared.line_reply.LineReply.TheVariants as line
+use Rattle.connection_replies.specs.ReplyLines.{reply_lines}
+use Rattle.connection_core.specs.declared.asked.Asked.{Asked}
+use Rattle.connection_core.specs.declared.asked.Asked.TheVariants.{Act, Malformed}
+use Rattle.connection_core.specs.Asking.{Block, asked_of, is_malformed, is_refused}
 
--- the words of an error
-abbrev pub error : List ℕ → List (List ℕ)
-error message = codes "ERROR" ∷ message ∷ []
+-- ---- the acts and the requests of a connection
 
--- the words of the reply to a request, of a connection that is connected or not
-abbrev pub reply : Request → Bool → List (List ℕ)
-reply Hello false = codes "HELLO" ∷ codes "1" ∷ codes "modmap" ∷ []
-reply Hello true = error (codes "already connected")
-reply Repo false = error (codes "not connected")
-reply Repo true = codes "PATHNAME" ∷ codes "gcm.cache" ∷ []
-reply Unknown connected = error (codes "unknown request")
+-- the acts of a connection, in order
+abbrev pub acts_of : ℕ → List Entry → List Acts
+acts_of conn [] = []
+acts_of conn (entry ∷ history) = if entry.conn == conn then entry.act ∷ acts_of conn history else acts_of conn history
 
--- what a malformed line is answered, line k of its block
-abbrev pub malformed_text : ℕ → Reason → List ℕ
-malformed_text k reason = codes "line " ++ decimal k ++ codes ": " ++ reason_text reason
+-- whether an act is a request, which has a reply
+abbrev pub is_request : Acts → Bool
+is_request Open = false
+is_request Pause = false
+is_request Left = false
+is_request Lost = false
+is_request Done = false
+is_request _ = true
 
--- what every other line of its block is answered, where line j is the first malformed one
-abbrev pub refused_text : ℕ → List ℕ
-refused_text j = codes "batch refused: line " ++ decimal j
+-- the places of a connection's requests, in a history whose first entry has this place
+abbrev pub request_places : ℕ → ℕ → List Entry → List ℕ
+request_places first conn [] = []
+request_places first conn (entry ∷ history) =
+    if entry.conn == conn && is_request entry.act then first ∷ request_places (first + 1) conn history
+    else request_places (first + 1) conn history
 
--- the reply to line k of a block, whose first malformed line is this, if it has one
-abbrev pub reply_to : Asked → Option ℕ → Bool → ℕ → List (List ℕ)
-reply_to (Malformed reason) refused connected k = error (malformed_text k reason)
-reply_to (Requests request) (Some j) connected k = error (refused_text j)
-reply_to (Requests request) None connected k = reply request connected
+-- ---- one block
 
--- whether a connection is connected behind a line of a block, whose first malformed line is this, if it has one
-abbrev pub connects : Option ℕ → Bool → Asked → Bool
-connects None connected (Requests Hello) = true
-connects None connected (Requests Repo) = connected
-connects None connected (Requests Unknown) = connected
-connects None connected (Malformed reason) = connected
-connects (Some j) connected asked = connected
+-- the number of the first malformed line, counted from 1
+abbrev pub first_malformed : List Asked → ℕ
+first_malformed lines = unwrap_or (position is_malformed lines) 0 + 1
 
--- the replies to the lines of a block from line k on
-abbrev pub replies_from : Option ℕ → Bool → ℕ → List Asked → List (List (List ℕ))
-replies_from refused connected k [] = []
-replies_from refused connected k (asked ∷ rest) = reply_to asked refused connected k ∷ replies_from refused (connects refused connected asked) (k + 1) rest
+-- how a line of a refused block is answered, by the number of the first malformed line and by its own
+abbrev pub refusal : ℕ → ℕ → Asked → LineReply
+refusal first number (Act asked) = line.Refused first
+refusal first number (Malformed reason) = line.Malformed number reason
 
--- whether a connection is connected behind lines of a block
-abbrev pub connected_behind : Option ℕ → Bool → List Asked → Bool
-connected_behind refused connected [] = connected
-connected_behind refused connected (asked ∷ rest) = connected_behind refused (connects refused connected asked) rest
+-- how the lines from this number on are answered
+abbrev pub refusals_from : ℕ → ℕ → List Asked → List LineReply
+refusals_from first number [] = []
+refusals_from first number (asked ∷ rest) = refusal first number asked ∷ refusals_from first (number + 1) rest
 
--- whether a line is malformed
-abbrev pub is_malformed : Asked → Bool
-is_malformed (Requests request) = false
-is_malformed (Malformed reason) = true
+-- how the lines of a refused block are answered
+abbrev pub refusals : List Asked → List LineReply
+refusals lines = refusals_from (first_malformed lines) 1 lines
 
--- the number of the first malformed line of a block, counted from 1
-abbrev pub first_malformed : List Asked → Option ℕ
-first_malformed asked = option_map (λ k. k + 1) (position is_malformed asked)
+-- an answer in front of others, where all are there
+abbrev pub answer_first : Option Answer → Option (List LineReply) → Option (List LineReply)
+answer_first (Some answer) (Some replies) = Some (line.Answer answer ∷ replies)
+answer_first (Some answer) None = None
+answer_first None replies = None
 
--- reply lines, with the mark on all but the last
-abbrev pub reply_lines : List (List (List ℕ)) → List ℕ
-reply_lines [] = []
-reply_lines (words ∷ rest) = canonical_line words (not (length rest == 0)) ++ reply_lines rest
+-- The answers to lines whose requests are dealt these places: to each the next one. There are none while an answer or a
+-- request is missing.
+abbrev pub dealt : (ℕ → Option Answer) → List Asked → List ℕ → Option (List LineReply)
+dealt answer_at [] places = Some []
+dealt answer_at (asked ∷ rest) [] = None
+dealt answer_at (asked ∷ rest) (place ∷ places) = answer_first (answer_at place) (dealt answer_at rest places)
 
--- what a block is answered whose lines ask this
-abbrev pub answer_lines : Bool → List Asked → List ℕ
-answer_lines connected asked = reply_lines (replies_from (first_malformed asked) connected 1 asked)
+-- how the lines of a block are answered
+abbrev pub replies_to : (ℕ → Option Answer) → List Asked → List ℕ → Option (List LineReply)
+replies_to answer_at lines places = if is_refused lines then Some (refusals lines) else dealt answer_at lines places
 
--- what a block is answered: its lines' replies, or the refusal of each line where one is malformed
-abbrev pub answer : Bool → List (List ℕ) → List ℕ
-answer connected block = answer_lines connected (map asked_by block)
+-- the octets in which the lines of a block are answered
+abbrev pub block_answer : ProjectView → (ℕ → Option Answer) → List Asked → List ℕ → Option (List ℕ)
+block_answer project answer_at lines places = option_map (reply_lines project) (replies_to answer_at lines places)
 
--- whether a connection is connected behind a block
-abbrev pub connected_by : Bool → List (List ℕ) → Bool
-connected_by connected block = connected_behind (first_malformed (map asked_by block)) connected (map asked_by block)
+-- how many requests a block enters
+abbrev pub request_count : List Asked → ℕ
+request_count lines = if is_refused lines then 0 else length lines
 
--- what blocks are answered, from a connection that is connected or not
-abbrev pub answers_from : Bool → List (List (List ℕ)) → List ℕ
-answers_from connected [] = []
-answers_from connected (block ∷ blocks) = answer connected block ++ answers_from (connected_by connected block) blocks
+-- how many requests blocks enter
+abbrev pub all_requests : ProjectView → List Block → ℕ
+all_requests project [] = 0
+all_requests project (block ∷ blocks) = request_count (asked_of project block) + all_requests project blocks
 
--- what the blocks of a connection are answered
-abbrev pub answers : List (List (List ℕ)) → List ℕ
-answers blocks = answers_from false blocks
+-- ---- all blocks
 
--- whether a connection is connected behind its blocks
-abbrev pub connected_after : Bool → List (List (List ℕ)) → Bool
-connected_after connected [] = connected
-connected_after connected (block ∷ blocks) = connected_after (connected_by connected block) blocks
+-- two texts, one behind the other, where both are there
+abbrev pub joined : Option (List ℕ) → Option (List ℕ) → Option (List ℕ)
+joined (Some first) (Some second) = Some (first ++ second)
+joined (Some first) None = None
+joined None second = None
+
+-- block by block its answers, to each well-formed one as many of the places as it has lines
+abbrev pub answers_at : ProjectView → (ℕ → Option Answer) → List Block → List ℕ → Option (List ℕ)
+answers_at project answer_at [] places = Some []
+answers_at project answer_at (block ∷ blocks) places =
+    joined (block_answer project answer_at (asked_of project block) places)
+    (answers_at project answer_at blocks (drop (request_count (asked_of project block)) places))
+
+-- The octets that a history answers to a connection's blocks. There are none while a reply or a request is missing.
+abbrev pub answers : ProjectView → ℕ → List Entry → ℕ → List Block → Option (List ℕ)
+answers project workers history conn blocks =
+    answers_at project (reply project workers history) blocks (request_places 0 conn history)

@@ -1,5 +1,10 @@
 pub mod Asking
 pub mod Answers
+pub mod Ends
+pub mod Alone
 pub mod Standing
 pub mod Taking
+pub mod Entering
+pub mod Replying
+pub mod Sessions
 pub mod Working

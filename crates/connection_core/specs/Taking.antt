@@ -1,51 +1,66 @@
--- What a session answers to a piece of input, to a turn of replies, and at its end.
-use Rattle.std.specs.Prelude.{◌≡◌, ℕ, zero, suc, ◌+◌, ◌<◌, ◌≤◌, true, false, List, [], ◌∷◌, ◌++◌, Some, None, length, take, Result, Ok, Err, ⊤}
+-- What a session answers to a piece of input and at the end of its input.
+use Rattle.std.specs.Prelude.{◌≡◌, ℕ, zero, suc, ◌+◌, ◌<◌, ◌≤◌, true, false, List, [], ◌∷◌, ◌++◌, Some, None, length, take, ⊤}
 use Rattle.cody_batches.specs.Blocks.{blocks, taken, has_long_block, most_octets}
+use Rattle.unit_registry.specs.Projects.{ProjectView}
+use Rattle.connection_core.specs.declared.block_reader.Stage.TheVariants as stage
 use Rattle.connection_core.specs.declared.conn_end.ConnEnd.{ConnEnd}
-use Rattle.connection_core.specs.declared.conn_end.ConnEnd.TheVariants.{Closed, Truncated, ReadFault, WriteFault, TooLong, BatchTooLong}
+use Rattle.connection_core.specs.declared.conn_end.ConnEnd.TheVariants.{Closed, Truncated, ReadFault, WriteFault, TooLong, BatchTooLong, HistoryFull}
 use Rattle.connection_core.specs.declared.conn_end.Took.{Took}
 use Rattle.connection_core.specs.declared.conn_end.Took.TheVariants as took
-use Rattle.connection_core.specs.declared.conn_end.Turn.{Turn}
-use Rattle.connection_core.specs.declared.conn_end.Turn.TheVariants as turn
-use Rattle.connection_core.specs.Standing.{Standing, StandsAfter, ended, IsIdle}
-
--- ---- a piece of input
+use Rattle.connection_core.specs.Asking.{Block, asked_of}
+use Rattle.connection_core.specs.Standing.{ReaderState, ReaderStands}
 
 -- all of the piece was taken, and no block ended in it
-pub record TakesAll (fed answered piece : List ℕ) (new : Standing) : Type 0 where
-  pub stands : StandsAfter new (fed ++ piece) answered
+pub record TakesAll (project : ProjectView) (fed piece : List ℕ) (new : ReaderState) : Type 0 where
+  pub stands : ReaderStands new project (fed ++ piece)
   pub none_ended : blocks (fed ++ piece) ≡ blocks fed
-  pub idle : IsIdle new
+  pub reading : new.stage ≡ stage.Reading
 
--- the first octets of the piece were taken, up to the end of a block
-pub record TakesBlock (fed answered piece : List ℕ) (used : ℕ) (new : Standing) : Type 0 where
+-- the first octets of the piece end the first block that ends in it
+pub record EndsBlock (fed piece : List ℕ) (used : ℕ) (block : Block) : Type 0 where
   pub some : 0 < used
   pub within : used ≤ length piece
-  pub stands : StandsAfter new (fed ++ take used piece) answered
-  pub one_ended : (block : List (List ℕ)) × (blocks (fed ++ take used piece) ≡ blocks fed ++ block ∷ [])
+  pub one_ended : blocks (fed ++ take used piece) ≡ blocks fed ++ block ∷ []
   pub none_before : (n : ℕ) → n < used → blocks (fed ++ take n piece) ≡ blocks fed
 
--- A block has more lines than a block may have, within the octets of a connection. The blocks before it are those that ended so far.
+-- these octets were taken, and the block waits for its replies
+pub record TakesBlock (project : ProjectView) (fed piece : List ℕ) (used : ℕ) (new : ReaderState) : Type 0 where
+  pub block : Block
+  pub ends : EndsBlock fed piece used block
+  pub stands : ReaderStands new project (fed ++ take used piece)
+  pub kept : new.asked ≡ asked_of project block
+
+-- a block has more lines than a block may have, within the octets of a connection; those that ended so far are all that are taken
 pub record PassesLines (fed piece : List ℕ) : Type 0 where
   pub taken_are : taken (fed ++ piece) ≡ blocks fed
   pub long : has_long_block (take most_octets (fed ++ piece)) ≡ true
 
--- There are more octets than a connection may send, and no block before that has too many lines.
+-- there are more octets than a connection may send, and no block before that has too many lines
 pub record PassesOctets (fed piece : List ℕ) : Type 0 where
   pub taken_are : taken (fed ++ piece) ≡ blocks fed
   pub many : most_octets < length (fed ++ piece)
   pub fits : has_long_block (take most_octets (fed ++ piece)) ≡ false
 
--- what a session that stood after these octets answers to a piece
-abbrev pub Takes : List ℕ → List ℕ → List ℕ → Took → Standing → Type 0
-Takes fed answered piece took.All new = TakesAll fed answered piece new
-Takes fed answered piece (took.Block used) new = TakesBlock fed answered piece used new
-Takes fed answered piece (took.Ended TooLong) new = PassesOctets fed piece
-Takes fed answered piece (took.Ended BatchTooLong) new = PassesLines fed piece
-Takes fed answered piece (took.Ended Closed) new = ⊥
-Takes fed answered piece (took.Ended (Truncated lines)) new = ⊥
-Takes fed answered piece (took.Ended ReadFault) new = ⊥
-Takes fed answered piece (took.Ended WriteFault) new = ⊥
+-- a block ended in the piece within the limits, and what it enters had no room
+pub record FillsHistory (project : ProjectView) (fed piece : List ℕ) (new : ReaderState) : Type 0 where
+  pub used : ℕ
+  pub block : Block
+  pub ends : EndsBlock fed piece used block
+  pub few : length (fed ++ take used piece) ≤ most_octets
+  pub fits : has_long_block (fed ++ take used piece) ≡ false
+  pub kept : new.asked ≡ asked_of project block
+
+-- what a reader that stood after these octets comes to with a piece
+abbrev pub Takes : ProjectView → List ℕ → List ℕ → Took → ReaderState → Type 0
+Takes project fed piece took.All new = TakesAll project fed piece new
+Takes project fed piece (took.Block used) new = TakesBlock project fed piece used new
+Takes project fed piece (took.Ended TooLong) new = PassesOctets fed piece
+Takes project fed piece (took.Ended BatchTooLong) new = PassesLines fed piece
+Takes project fed piece (took.Ended (HistoryFull entries kept)) new = FillsHistory project fed piece new
+Takes project fed piece (took.Ended Closed) new = ⊥
+Takes project fed piece (took.Ended (Truncated lines)) new = ⊥
+Takes project fed piece (took.Ended ReadFault) new = ⊥
+Takes project fed piece (took.Ended WriteFault) new = ⊥
 
 -- how many of the octets of a piece were taken: all, or those up to the end of a block, at least one
 abbrev pub CountsTaken : ℕ → Took → ℕ → ℕ → Type 0
@@ -53,32 +68,15 @@ CountsTaken count took.All old new = new ≡ old + count
 CountsTaken count (took.Block used) old new = (new ≡ old + used) × (0 < used) × (used ≤ count)
 CountsTaken count (took.Ended how) old new = ⊤
 
--- an end that a limit brings
+-- an end that a limit brings, or a full history
 abbrev pub IsLimit : ConnEnd → Type 0
 IsLimit TooLong = ⊤
 IsLimit BatchTooLong = ⊤
+IsLimit (HistoryFull entries kept) = ⊤
 IsLimit Closed = ⊥
 IsLimit (Truncated lines) = ⊥
 IsLimit ReadFault = ⊥
 IsLimit WriteFault = ⊥
-
--- the session goes on, or has come to the end that it answers, a limit where it is a new one
-abbrev pub EndsSo : Took → Standing → Standing → Type 0
-EndsSo took.All old new = (ended new ≡ None) × IsIdle new
-EndsSo (took.Block used) old new = ended new ≡ None
-EndsSo (took.Ended how) old new = (ended new ≡ Some how) × (ended old ≡ None → IsLimit how)
-
--- ---- replies and ends
-
--- what writing the replies came to
-abbrev pub as_result : Turn → Result (Unit {0}) ConnEnd
-as_result turn.Fed = Ok tt
-as_result (turn.Ended how) = Err how
-
--- a session that hadn't ended ends by a write fault alone, and a session stays at its end
-abbrev pub EndsReplying : Turn → Standing → Standing → Type 0
-EndsReplying turn.Fed old new = ended new ≡ None
-EndsReplying (turn.Ended how) old new = (ended new ≡ Some how) × (ended old ≡ None → how ≡ WriteFault)
 
 -- how a connection ends whose input ends while so many lines are held
 abbrev pub end_holding : ℕ → ConnEnd
@@ -93,3 +91,4 @@ IsEndOfInput TooLong = ⊥
 IsEndOfInput BatchTooLong = ⊥
 IsEndOfInput ReadFault = ⊥
 IsEndOfInput WriteFault = ⊥
+IsEndOfInput (HistoryFull entries kept) = ⊥

@@ -5,8 +5,11 @@
 pub enum ConnEnd {
     /// The input ended behind a whole block, or before any.
     Closed,
-    /// The input ended inside a block, of which so many lines were held, an unfinished one counted.
-    Truncated { lines: u32 },
+    /// The input ended inside a block.
+    Truncated {
+        /// How many lines of it were held, an unfinished one counted.
+        lines: u32,
+    },
     /// A read of the link failed.
     ReadFault,
     /// A write of the link failed.
@@ -15,6 +18,13 @@ pub enum ConnEnd {
     TooLong,
     /// A block has more lines than a block may have, 1,024, blank ones not counted.
     BatchTooLong,
+    /// The history has no room for all that a block enters.
+    HistoryFull {
+        /// How many entries the history had.
+        entries: u32,
+        /// How many ends were kept free in it.
+        reserved: u32,
+    },
 }
 
 /// What a session took of a piece of input.
@@ -33,6 +43,8 @@ pub enum Took {
 pub enum Turn {
     /// All reply lines were written, or none was due.
     Fed,
+    /// The request at this place of the history has no reply yet, and nothing was written.
+    Waiting { place: u32 },
     /// The connection has ended.
     Ended(ConnEnd),
 }

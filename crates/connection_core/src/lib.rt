@@ -1,33 +1,30 @@
-//! The session of one connection: octets in, the reply octets of whole blocks out.
+//! The session of one connection over any desk: octets in, acts entered, the reply octets of whole blocks out.
 //!
-//! Each line of a block is answered by one reply line, in order, as libcody's protocol text says. This session knows
-//! two requests, and answers
+//! A block's requests are entered at the desk in order, each name replaced by its unit, and then a Pause. Each line is
+//! answered by one reply line, in order, as libcody's protocol text says, and no reply is begun before all replies of the
+//! block are there. A block with a malformed line enters nothing and is refused by line numbers; that, the Pause and the
+//! limits are this project's own.
 //!
-//! - four words, the first `HELLO`, the second `1`: `HELLO 1 modmap`, and the connection is connected from here;
-//!   connected already: `ERROR 'already connected'`;
-//! - the one word `MODULE-REPO`: `PATHNAME gcm.cache`; not connected: `ERROR 'not connected'`;
-//! - all else: `ERROR 'unknown request'`.
+//! `TooLong` comes exactly at octet 67,108,865 since `reset`, `BatchTooLong` exactly where line 1,025 of a block ends, and
+//! `HistoryFull` where the desk's history has no room for an act. After an end every call but `reset` answers that end,
+//! and enters and writes nothing.
 //!
-//! A block with a malformed line enters nothing: line k malformed answers `ERROR 'line k: REASON'`, every other line
-//! `ERROR 'batch refused: line j'`, j the first malformed one, lines counted from 1. Replies are canonical lines, all
-//! but the last of a block with the mark. The verbs are libcody's; the texts of errors, the name and the path are this
-//! project's own.
-//!
-//! `TooLong` comes exactly at octet 67,108,865 since `reset`, `BatchTooLong` exactly where line 1,025 of a block ends.
-//! After an end every call but `reset` answers that end, and enters and writes nothing.
-//!
-//! The definitions stand in `specs/Asking.antt` and `specs/Answers.antt`; what a session takes and when it ends, in
-//! `specs/Standing.antt` and `specs/Taking.antt`.
+//! What blocks ask and enter stands in `specs/Asking.antt`, the octets in which a history answers them in
+//! `specs/Answers.antt`, how a connection stands when it has ended in `specs/Ends.antt`, the history of one that is served
+//! alone in `specs/Alone.antt`, and what a session's calls come to in `specs/Taking.antt`, `specs/Entering.antt` and
+//! `specs/Sessions.antt`.
 #![tactic(auto)]
 
-mod asking;
+mod asked;
+mod block_reader;
 mod conn_end;
+mod entering;
 mod laws;
-mod replies;
+mod replying;
 mod session;
 
 pub use conn_end::{ConnEnd, Took, Turn};
-pub use laws::{answers_due, answers_grow, ended_idle};
+pub use laws::{answers_join, answers_stay};
 pub use session::Session;
 
 #[cfg(test)]

@@ -1,212 +1,227 @@
 //! The session of one connection.
 
-ghost use Rattle.std.specs.Prelude.{◌≡◌, ◌≢◌, ◌<◌, ◌≤◌, ◌+◌, ◌-◌, All, List, ℕ, [], ◌++◌, ◌∷◌, ◌⊎◌, length, take, IfOk, None, Some, MatchOption};
-ghost use Rattle.mm_outside.specs.Told.{Told};
+ghost use Rattle.std.specs.Prelude.{◌≡◌, ◌≤◌, ◌+◌, List, ℕ, [], length, IfOk, None, Some, IsTrue, true};
 ghost use Rattle.mm_outside.specs.Causes.{HasCause};
-ghost use Rattle.mm_outside.specs.Sending.{Sends};
-ghost use Rattle.cody_words.specs.Octets.{newline};
-ghost use Rattle.cody_batches.specs.Blocks.{most_octets, held};
-ghost use Rattle.connection_core.specs.Standing.{StandsAfter, ended, due, IsIdle, octets_taken};
-ghost use Rattle.connection_core.specs.Taking.{Takes, CountsTaken, EndsSo, EndsReplying, IsEndOfInput, as_result, end_holding};
-ghost use Rattle.connection_core.specs.Working.{GoesOn, TakesLine, TakesLines, stage_after};
+ghost use Rattle.cody_batches.specs.Blocks.{held, most_octets};
+ghost use Rattle.unit_registry.specs.Projects.{ProjectView};
+ghost use Rattle.registry_core.specs.Desks.{Looks};
+ghost use Rattle.connection_core.specs.declared.conn_end.ConnEnd.{ConnEnd};
+ghost use Rattle.connection_core.specs.Asking.{is_refused};
+ghost use Rattle.connection_core.specs.Taking.{Takes, CountsTaken, IsEndOfInput, end_holding};
+ghost use Rattle.connection_core.specs.Entering.{Fits, IsServing};
+ghost use Rattle.connection_core.specs.Sessions.{StandsAfter, ended, IsIdle, octets_taken, lines_of, HasRoomFor, EntersTook, EntersNothing, EndsTaking, RepliesSo, EndsReplying, as_result};
 
-use crate::asking::{Asked, Note, note_line};
+use crate::block_reader::{BlockReader, Stage};
 use crate::conn_end::{ConnEnd, Took, Turn};
-use crate::replies::{LONGEST_MESSAGE, REPLY_ROOM, write_replies};
-use cody_batches::{Intake, MOST_LINES};
-use cody_words::LineBuf;
-use memchr::memchr;
-use mm_outside::{Failed, Link, Memory, send};
+use crate::entering::{Stash, enter_block};
+use crate::replying::gather;
+use cody_batches::MOST_LINES;
+use connection_replies::{LineReply, ReplyBuf};
+use mm_outside::{Failed, Link, Memory};
+use registry_core::{Desk, Full};
 use std::alloc::Global;
 use std::marker::Model;
+use unit_registry::Project;
 
-/// The most octets of a connection's input, 64 MiB: this project's own limit.
-const MOST_OCTETS: u32 = 67_108_864;
-
-/// How a session goes on. Its end stays until it is reset.
-#[derive(Clone, Copy, Debug, PartialEq, Eq)]
-pub(crate) enum Stage {
-    /// A block may be begun.
-    Reading,
-    /// A whole block waits for its replies.
-    Waiting,
-    /// The connection has ended.
-    Ended(ConnEnd),
+/// The session of one connection. It takes octets, enters what each block asks at a desk when the block is whole, and
+/// writes the block's replies when they are all there.
+#[derive(Drop)]
+pub struct Session<I> {
+    /// The octets, and what the lines of the block ask that is begun or waits.
+    reader: BlockReader,
+    /// The connection.
+    conn: u32,
+    /// The item that is kept for the next report of its unit.
+    stash: Option<Stash<I>>,
+    /// The places of the requests of the block that waits.
+    places: Vec<u32>,
+    /// How the lines of the block are answered.
+    replies: Vec<LineReply>,
+    /// The reply lines on their way to the link.
+    lines: ReplyBuf,
 }
 
-/// What a line brought.
-enum Line {
-    /// Its block goes on, or it is blank.
-    More,
-    /// Its block ended.
-    Block,
-    /// Its block has too many lines.
-    TooMany,
-}
-
-/// The session of one connection. It takes octets, and writes the replies of each block when the block is whole.
-///
-/// Contracts say of it by `StandsAfter` which octets it has taken and which replies it has written since it was new or
-/// was reset, and by `ended` how it has ended. What it keeps is no part of that, and no contract names it.
-#[derive(Debug, Drop)]
-pub struct Session {
-    /// The begun line, and the number of lines of the begun block.
-    intake: Intake,
-    /// How many octets were taken.
-    taken: u32,
-    /// Whether the connection is connected.
-    connected: bool,
-    /// What the lines ask of the block that is begun or waits.
-    asked: Vec<Asked>,
-    /// How the session goes on.
-    stage: Stage,
-    /// The reply lines of a block, which go out together.
-    replies: LineBuf,
-    /// The message of an error.
-    message: LineBuf,
-}
-
-impl Model for Session {
+impl<I> Model for Session<I> {
     ghost use Rattle.std.specs.Vec.{vec_capacity};
-    ghost use Rattle.connection_core.specs.Standing.{Standing};
-    ghost use Rattle.connection_core.specs.Working.{IsReady, standing_of};
+    ghost use Rattle.connection_core.specs.Sessions.{SessionState, IsPrepared};
 
-    ghost Value = { Standing };
+    ghost Value = { SessionState I };
 
-    ghost view = { λ s. standing_of s.intake s.taken s.connected s.asked.items s.stage };
+    ghost view = { λ s. record { reader = s.reader; conn = s.conn; stash = s.stash; places = s.places.items } };
 
-    ghost invariant = { λ s. IsReady (standing_of s.intake s.taken s.connected s.asked.items s.stage)
-        (vec_capacity s.asked) s.replies s.message };
+    ghost invariant = { λ s. IsPrepared s.reader.stage s.reader.asked s.places.items
+        (vec_capacity s.places) (vec_capacity s.replies) };
 }
 
-impl Session {
-    /// A session that has taken nothing. It takes all its memory here.
+impl<I> Session<I> {
+    /// A session that has taken nothing, of connection 0. It takes all its memory here.
     ///
     /// # Errors
     ///
     /// `Memory` where there is none.
-    pub fn new(alloc: Global) -> Result<Session, Memory>
-        ensures { IfOk result (λ session. StandsAfter session [] []) }
+    pub fn new(alloc: Global) -> Result<Session<I>, Memory>
+        ensures stands { IfOk result (λ session. (project : ProjectView) → StandsAfter session project []) }
+        ensures going { IfOk result (λ session. ended session ≡ None) }
+        ensures idle { IfOk result (λ session. IsIdle session) }
+        ensures stash { IfOk result (λ session. session.stash ≡ None) }
+        ensures conn { IfOk result (λ session. session.conn ≡ 0) }
     {
+        let reader = BlockReader::new(alloc)?;
+        let places = Vec::with_capacity(alloc, MOST_LINES as usize)?;
+        let replies = Vec::with_capacity(alloc, MOST_LINES as usize)?;
+        let lines = ReplyBuf::new(alloc)?;
         Ok(Session {
-            intake: Intake::new(alloc)?,
-            taken: 0,
-            connected: false,
-            asked: Vec::with_capacity(alloc, MOST_LINES as usize)?,
-            stage: Stage::Reading,
-            replies: LineBuf::new(alloc, MOST_LINES * REPLY_ROOM)?,
-            message: LineBuf::new(alloc, LONGEST_MESSAGE)?,
+            reader,
+            conn: 0,
+            stash: None,
+            places,
+            replies,
+            lines,
         })
     }
 
-    /// Begins anew, as the session of another connection: nothing was taken, nobody is connected, and no end has come.
-    pub fn reset(&mut self)
-        ensures { StandsAfter self.new [] [] }
+    /// Begins anew, as the session of this connection: nothing was taken, no item is kept, and no end has come.
+    pub fn reset(&mut self, conn: u32)
+    where
+        I: Drop,
+        ensures stands { (project : ProjectView) → StandsAfter self.new project [] }
+        ensures going { ended self.new ≡ None }
+        ensures idle { IsIdle self.new }
+        ensures stash { self.new.stash ≡ None }
+        ensures conn { self.new.conn ≡ conn }
     {
-        self.intake.reset();
-        self.taken = 0;
-        self.connected = false;
-        self.asked.clear();
-        self.stage = Stage::Reading;
+        self.reader.reset();
+        self.conn = conn;
+        self.stash = None;
+        self.places.clear();
     }
 
-    /// Takes octets of the connection's input, up to the end of the first block that ends in the piece. After `Block`
-    /// the rest of the piece is to be taken, when `try_replies` has written the block's replies.
+    /// Keeps an item for the next report that this unit is compiled. None is kept so far.
+    pub fn stash(&mut self, unit: u32, item: I)
+    where
+        I: Drop,
+        requires { self.old.stash ≡ None }
+        ensures { self.new ≡ record self.old { stash = Some (record { unit = unit; item = item }) } }
+    {
+        self.stash = Some(Stash { unit, item });
+    }
+
+    /// Takes octets of the connection's input, up to the end of the first block that ends in the piece, and enters what
+    /// that block asks: its requests in order and then a Pause, or nothing where a line of it is malformed. The first
+    /// report of a unit for which an item is kept is entered with the item. After `Block` the rest of the piece is to be
+    /// taken, when `try_replies` has written the block's replies.
     ///
     /// # Ends
     ///
-    /// `TooLong` exactly at octet 67,108,865 since `reset`, and `BatchTooLong` exactly where line 1,025 of a block ends:
-    /// where the piece has both, or a block ends in it too, what comes first is answered. An end stays: every later call
-    /// but `reset` answers it, and enters and writes nothing.
-    pub fn take(&mut self, piece: &[u8]) -> Took
-        requires { IsIdle self.old }
-        ensures took { (fed answered : List ℕ) → StandsAfter self.old fed answered
-            → Takes fed answered piece.now result self.new }
+    /// `TooLong` exactly at octet 67,108,865 since `reset`, `BatchTooLong` exactly where line 1,025 of a block ends, and
+    /// `HistoryFull` where the desk has no room for an act, with its numbers; what comes first is answered. An end stays:
+    /// every later call but `reset` answers it, and enters and writes nothing.
+    pub fn take<D: Desk<Item = I>>(&mut self, project: &Project, piece: &[u8], desk: &mut D) -> Took
+    where
+        I: Drop,
+        requires idle { IsIdle self.old }
+        requires project { project.now ≡ (D.tells desk.old).seen.project }
+        requires serving { ended self.old ≡ None → IsServing self.old.conn (D.tells desk.old) }
+        requires stands { ended self.old ≡ None
+            → (fed : List ℕ) × StandsAfter self.old project.now fed }
+        requires fits { Fits (D.fits (D.tells desk.old).held) self.old.stash }
+        requires room { ended self.old ≡ None → IsTrue (D.tells desk.old).metered
+            → HasRoomFor self.old project.now piece.now (D.tells desk.old).room }
+        ensures took { (fed : List ℕ) → StandsAfter self.old project.now fed
+            → Takes project.now fed piece.now result self.new.reader }
+        ensures entered { ended self.old ≡ None
+            → EntersTook result self.old self.new (D.tells desk.old) (D.tells desk.new) }
+        ensures nothing { ended self.old ≡ None → EntersNothing result self.new
+            → desk.new ≡ desk.old }
         ensures count { CountsTaken (length piece.now) result
             (octets_taken self.old) (octets_taken self.new) }
-        ensures bound { octets_taken self.new ≤ most_octets }
-        ensures end { EndsSo result self.old self.new }
+        ensures bound { ended self.old ≡ None → octets_taken self.new ≤ most_octets }
+        ensures stash { result ≡ Took.All → self.new.stash ≡ self.old.stash }
+        ensures end { EndsTaking result self.old self.new }
+        ensures serving { ended self.old ≡ None → IsServing self.old.conn (D.tells desk.new) }
+        ensures conn { self.new.conn ≡ self.old.conn }
+        ensures fits { Fits (D.fits (D.tells desk.old).held) self.new.stash }
 
         // An end stays.
         ensures ended { (how : ConnEnd) → ended self.old ≡ Some how
-            → (result ≡ Took.Ended how) × (self.new ≡ self.old) }
+            → (result ≡ Took.Ended how) × (self.new ≡ self.old) × (desk.new ≡ desk.old) }
     {
-        if let Stage::Ended(how) = self.stage {
+        if let Stage::Ended(how) = self.reader.stage() {
             return Took::Ended(how);
         }
-        let room = (MOST_OCTETS - self.taken) as usize;
-        if piece.len() <= room {
-            return self.take_lines(piece);
-        }
-        let (front, _) = piece.split_at(room);
-        match self.take_lines(front) {
-            Took::All => {
-                self.stage = Stage::Ended(ConnEnd::TooLong);
-                Took::Ended(ConnEnd::TooLong)
+        project.units_differ();
+        match self.reader.read(project, piece) {
+            Took::Block { used } => {
+                self.places.clear();
+                let asked = self.reader.asked();
+                match enter_block(self.conn, asked, &mut self.stash, &mut self.places, desk) {
+                    Ok(()) => Took::Block { used },
+                    Err(Full { entries, reserved }) => {
+                        let how = ConnEnd::HistoryFull { entries, reserved };
+                        self.reader.end(how);
+                        Took::Ended(how)
+                    }
+                }
             }
             took => took,
         }
     }
 
-    /// Writes the replies of the block that waits for them, together, by one `write` where the link takes them all.
-    /// Where no block waits nothing is written.
+    /// Writes the replies of the block that waits for them, in as few writes as the link allows, or answers the place of
+    /// a request that has no reply yet; then nothing is written. Where no block waits nothing is written.
     ///
     /// # Ends
     ///
-    /// `WriteFault` where a write failed. A proper front of the replies was written then.
-    pub fn try_replies<L: Link>(&mut self, link: &mut L) -> Turn
-        ensures octets { ended self.old ≡ None
-            → Told (Sends (as_result result) (due self.old)) (L.octets link.old) (L.octets link.new) }
-        ensures stands { (fed answered : List ℕ) → StandsAfter self.old fed answered
-            → result ≡ Turn.Fed → StandsAfter self.new fed (answered ++ due self.old) }
-        ensures idle { result ≡ Turn.Fed → IsIdle self.new }
+    /// `WriteFault` where a write failed. A proper prefix of the replies was written then.
+    pub fn try_replies<D: Desk<Item = I>, L: Link>(
+        &mut self,
+        project: &Project,
+        desk: &mut D,
+        link: &mut L,
+    ) -> Turn
+        requires project { project.now ≡ (D.tells desk.old).seen.project }
+        requires serving { ended self.old ≡ None → IsServing self.old.conn (D.tells desk.old) }
+        ensures replies { ended self.old ≡ None
+            → RepliesSo result (D.tells desk.new).seen self.old (L.octets link.old) (L.octets link.new) }
+        ensures stands { (fed : List ℕ) → StandsAfter self.old project.now fed
+            → result ≡ Turn.Fed → StandsAfter self.new project.now fed }
+        ensures waits { (place : ℕ) → result ≡ Turn.Waiting place
+            → (self.new ≡ self.old) × (link.new ≡ link.old) }
+        ensures looked { ended self.old ≡ None → Looks (D.tells desk.old) (D.tells desk.new) }
+        ensures refused { is_refused (lines_of self.old) ≡ true → desk.new ≡ desk.old }
+        ensures idle { IsIdle self.old → ended self.old ≡ None → (result ≡ Turn.Fed)
+            × (self.new ≡ self.old) × (desk.new ≡ desk.old) × (link.new ≡ link.old) }
+        ensures serving { ended self.old ≡ None → IsServing self.old.conn (D.tells desk.new) }
         ensures count { octets_taken self.new ≡ octets_taken self.old }
-        ensures nothing { IsIdle self.old → ended self.old ≡ None
-            → (result ≡ Turn.Fed) × (self.new ≡ self.old) × (link.new ≡ link.old) }
+        ensures conn { self.new.conn ≡ self.old.conn }
+        ensures stash { self.new.stash ≡ self.old.stash }
+        ensures end { EndsReplying result self.old self.new }
 
         // A new end is a write fault alone.
         ensures fault { ended self.old ≡ None
             → HasCause (L.write_faults link.old) (L.write_faults link.new) (as_result result) }
         ensures reads { L.read_faults link.new ≡ L.read_faults link.old }
-        ensures end { EndsReplying result self.old self.new }
 
         // An end stays.
-        ensures ended { (how : ConnEnd) → ended self.old ≡ Some how
-            → (result ≡ Turn.Ended how) × (self.new ≡ self.old) × (link.new ≡ link.old) }
+        ensures ended { (how : ConnEnd) → ended self.old ≡ Some how → (result ≡ Turn.Ended how)
+            × (self.new ≡ self.old) × (desk.new ≡ desk.old) × (link.new ≡ link.old) }
     {
-        match self.stage {
-            Stage::Reading => Turn::Fed,
-            Stage::Waiting => self.reply(link),
-            Stage::Ended(how) => Turn::Ended(how),
+        match self.reader.stage() {
+            Stage::Reading => return Turn::Fed,
+            Stage::Ended(how) => return Turn::Ended(how),
+            Stage::Waiting => {}
         }
-    }
-
-    /// Writes the replies of the block that waits for them.
-    fn reply<L: Link>(&mut self, link: &mut L) -> Turn
-        requires { self.old.stage ≡ Stage.Waiting }
-        ensures octets { Told (Sends (as_result result) (due self.old))
-            (L.octets link.old) (L.octets link.new) }
-        ensures stands { (fed answered : List ℕ) → StandsAfter self.old fed answered
-            → result ≡ Turn.Fed → StandsAfter self.new fed (answered ++ due self.old) }
-        ensures stage { self.new.stage ≡ stage_after result }
-        ensures count { octets_taken self.new ≡ octets_taken self.old }
-        ensures fault { HasCause (L.write_faults link.old) (L.write_faults link.new) (as_result result) }
-        ensures reads { L.read_faults link.new ≡ L.read_faults link.old }
-        ensures end { (result ≡ Turn.Fed) ⊎ (result ≡ Turn.Ended ConnEnd.WriteFault) }
-    {
         self.replies.clear();
-        self.connected = write_replies(
-            &self.asked,
-            self.connected,
-            &mut self.message,
-            &mut self.replies,
-        );
-        self.asked.clear();
-        self.stage = Stage::Reading;
-        match send(link, self.replies.octets()) {
-            Ok(()) => Turn::Fed,
+        if let Some(place) = gather(self.reader.asked(), &self.places, desk, &mut self.replies) {
+            return Turn::Waiting { place };
+        }
+        match self.lines.send(project, &self.replies, link) {
+            Ok(()) => {
+                self.reader.go_on();
+                Turn::Fed
+            }
             Err(Failed) => {
-                self.stage = Stage::Ended(ConnEnd::WriteFault);
+                self.reader.end(ConnEnd::WriteFault);
                 Turn::Ended(ConnEnd::WriteFault)
             }
         }
@@ -215,23 +230,20 @@ impl Session {
     /// Ends the session where the input has ended: `Closed`, or `Truncated` where a block is begun, with the number of
     /// its lines, an unfinished one counted, even one that is white space so far. An end that has come stays.
     pub fn end_of_input(&mut self) -> ConnEnd
-        ensures end { (fed answered : List ℕ) → StandsAfter self.old fed answered → result ≡ end_holding (held fed) }
+        ensures end { (project : ProjectView) (fed : List ℕ) → StandsAfter self.old project fed
+            → ended self.old ≡ None → result ≡ end_holding (held fed) }
         ensures kind { ended self.old ≡ None → IsEndOfInput result }
         ensures stays { ended self.new ≡ Some result }
         ensures count { octets_taken self.new ≡ octets_taken self.old }
+        ensures conn { self.new.conn ≡ self.old.conn }
         ensures ended { (how : ConnEnd) → ended self.old ≡ Some how
             → (result ≡ how) × (self.new ≡ self.old) }
     {
-        if let Stage::Ended(how) = self.stage {
+        if let Stage::Ended(how) = self.reader.stage() {
             return how;
         }
-        let lines = self.intake.lines_held();
-        let how = if lines == 0 {
-            ConnEnd::Closed
-        } else {
-            ConnEnd::Truncated { lines }
-        };
-        self.stage = Stage::Ended(how);
+        let how = self.reader.input_end();
+        self.reader.end(how);
         how
     }
 
@@ -240,100 +252,14 @@ impl Session {
         ensures end { ended self.old ≡ None → result ≡ ConnEnd.ReadFault }
         ensures stays { ended self.new ≡ Some result }
         ensures count { octets_taken self.new ≡ octets_taken self.old }
+        ensures conn { self.new.conn ≡ self.old.conn }
         ensures ended { (how : ConnEnd) → ended self.old ≡ Some how
             → (result ≡ how) × (self.new ≡ self.old) }
     {
-        if let Stage::Ended(how) = self.stage {
+        if let Stage::Ended(how) = self.reader.stage() {
             return how;
         }
-        self.stage = Stage::Ended(ConnEnd::ReadFault);
+        self.reader.end(ConnEnd::ReadFault);
         ConnEnd::ReadFault
-    }
-
-    /// Takes the lines of a piece, up to the end of a block.
-    fn take_lines(&mut self, piece: &[u8]) -> Took
-        requires room { octets_taken self.old + length piece.now ≤ most_octets }
-        requires reading { self.old.stage ≡ Stage.Reading }
-        ensures took { (fed answered : List ℕ) → StandsAfter self.old fed answered
-            → TakesLines fed answered piece.now result self.new }
-        ensures count { CountsTaken (length piece.now) result
-            (octets_taken self.old) (octets_taken self.new) }
-        ensures bound { octets_taken self.new ≤ most_octets }
-        ensures end { EndsSo result self.old self.new }
-        ensures idle { result ≡ Took.All → self.new.stage ≡ Stage.Reading }
-    {
-        let mut used = 0;
-        loop {
-            let (_, rest) = piece.split_at(used);
-            let Some(line) = first_line(rest) else {
-                self.take_rest(rest);
-                return Took::All;
-            };
-            used += line.len() + 1;
-            match self.take_line(line) {
-                Line::More => {}
-                Line::Block => return Took::Block { used },
-                Line::TooMany => return Took::Ended(ConnEnd::BatchTooLong),
-            }
-        }
-    }
-
-    /// Takes octets within a line.
-    fn take_rest(&mut self, octets: &[u8])
-        requires clean { All (λ octet. octet ≢ newline) octets.now }
-        requires room { octets_taken self.old + length octets.now ≤ most_octets }
-        requires reading { self.old.stage ≡ Stage.Reading }
-        ensures stands { (fed answered : List ℕ) → StandsAfter self.old fed answered
-            → GoesOn fed answered octets.now self.new }
-        ensures count { octets_taken self.new ≡ octets_taken self.old + length octets.now }
-        ensures stage { self.new.stage ≡ self.old.stage }
-    {
-        self.intake.feed_run(octets);
-        self.taken += octets.len() as u32;
-    }
-
-    /// Takes a line and its NEWLINE.
-    fn take_line(&mut self, line: &[u8]) -> Line
-        requires clean { All (λ octet. octet ≢ newline) line.now }
-        requires room { octets_taken self.old + length line.now < most_octets }
-        requires reading { self.old.stage ≡ Stage.Reading }
-        ensures line { (fed answered : List ℕ) → StandsAfter self.old fed answered
-            → TakesLine fed answered (line.now ++ newline ∷ []) result self.new }
-        ensures count { octets_taken self.new ≡ octets_taken self.old + (length line.now + 1) }
-        ensures more { result ≡ Line.More → self.new.stage ≡ Stage.Reading }
-        ensures block { result ≡ Line.Block → self.new.stage ≡ Stage.Waiting }
-        ensures end { result ≡ Line.TooMany → self.new.stage ≡ Stage.Ended ConnEnd.BatchTooLong }
-    {
-        self.intake.feed_run(line);
-        self.taken += line.len() as u32 + 1;
-        let step = self.intake.feed(b'\n');
-        match note_line(step, self.intake.words()) {
-            Note::Nothing => Line::More,
-            Note::Line { asked, last: false } => {
-                self.asked.push_reserved(asked);
-                Line::More
-            }
-            Note::Line { asked, last: true } => {
-                self.asked.push_reserved(asked);
-                self.stage = Stage::Waiting;
-                Line::Block
-            }
-            Note::TooMany => {
-                self.stage = Stage::Ended(ConnEnd::BatchTooLong);
-                Line::TooMany
-            }
-        }
-    }
-}
-
-/// The octets before the first NEWLINE, if there is one.
-fn first_line(piece: &[u8]) -> Option<&[u8]>
-    ensures { MatchOption result (All (λ octet. octet ≢ newline) piece.now)
-        (λ line. All (λ octet. octet ≢ newline) line.now
-        × ((rest : List ℕ) × (piece.now ≡ line.now ++ newline ∷ rest))) }
-{
-    match memchr(b'\n', piece) {
-        Some(k) => Some(&piece[..k]),
-        None => None,
     }
 }

@@ -1,5 +1,11 @@
-pub mod PieceLemmas
-pub mod TurnLemmas
+pub mod Forms
+pub mod Answering
+pub mod Soloing
+pub mod Waiting
+pub mod Pieces
+pub mod Going
+pub mod Turns
 pub mod PrintLemmas
+pub mod Runnings
 pub mod WordLemmas
-pub mod CompleteLemmas
+pub mod Complete

@@ -1,7 +1,8 @@
--- Links and sinks over readers and writers.
+-- Links and sinks over readers and writers, and the files of the machine.
 use Rattle.std.specs.Prelude.{◌≡◌}
 use Rattle.modmap.specs.declared.adapters.Pipe.{Pipe}
 use Rattle.modmap.specs.declared.adapters.WriterSink.{WriterSink}
+use Rattle.modmap.specs.declared.disk.DiskFiles.{DiskFiles}
 
 -- the link is over this reader and this writer, and nothing failed yet
 pub record IsOver {R W : Type 0} (reader : R) (writer : W) (pipe : Pipe R W) : Type 0 where
@@ -14,3 +15,9 @@ pub record IsOver {R W : Type 0} (reader : R) (writer : W) (pipe : Pipe R W) : T
 pub record WritesTo {W : Type 0} (writer : W) (sink : WriterSink W) : Type 0 where
   pub writer_is : sink.writer ≡ writer
   pub no_faults : sink.faults ≡ 0
+
+-- these are the files that the runtime value reaches, and nothing failed yet
+pub record IsOnDisk {R : Type 0} (rt : R) (files : DiskFiles R) : Type 0 where
+  pub rt_is : files.rt ≡ rt
+  pub no_read_faults : files.read_faults ≡ 0
+  pub no_write_faults : files.write_faults ≡ 0

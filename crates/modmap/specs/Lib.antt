@@ -1,5 +1,7 @@
+pub mod Adapters
+pub mod Commands
+pub mod Endings
+pub mod ProjectFiles
 pub mod Serving
 pub mod Ladder
-pub mod Endings
 pub mod Running
-pub mod Adapters

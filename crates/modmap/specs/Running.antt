@@ -1,36 +1,106 @@
 -- What a run of the program comes to.
-use Rattle.std.specs.Prelude.{◌≡◌, ℕ, List, [], ◌∷◌, map, Option, String, string_bytes, codes}
+use Rattle.std.specs.Prelude.{◌≡◌, ℕ, ◌+◌, ◌≤◌, List, map, length, Option, None, IfSome, IsSomeAnd, String, string_bytes, Result, Ok, Err}
 use Rattle.std.specs.declared.alloc.Global.{Global}
+use Rattle.mm_outside.specs.Causes.{Rose}
+use Rattle.mm_outside.specs.Files.{Lookup}
 use Rattle.mm_outside.specs.Octets.{Octets}
 use Rattle.mm_outside.specs.Told.{Told}
-use Rattle.cody_batches.specs.Blocks.{held, PassesLimits}
-use Rattle.modmap.specs.declared.ending.Ending.{Ending}
-use Rattle.modmap.specs.declared.ending.Ending.TheVariants.{BadWords, OutOfMemory, Served}
-use Rattle.modmap.specs.Serving.{Serves}
-use Rattle.modmap.specs.Endings.{status_of, message_of, Prints}
+use Rattle.cody_batches.specs.Blocks.{blocks, held, PassesLimits}
+use Rattle.unit_registry.specs.Projects.{ProjectView}
+use Rattle.connection_core.specs.Asking.{acts}
+use Rattle.connection_core.specs.Ends.{HasCauses}
+use Rattle.modmap.specs.Commands.{Task, Pipe, AsksFor}
+use Rattle.modmap.specs.Endings.{Ended, BadWords, OutOfMemory, CannotRead, FileTooLong, Refused, Served, status_of, message_of, Prints}
+use Rattle.modmap.specs.ProjectFiles.{DeclaresProject, FindsProject}
+use Rattle.modmap.specs.Serving.{ServesAlone}
 
--- the words are `pipe` alone
-abbrev pub SaysPipe : List (String Global) → Type 0
-SaysPipe words = map string_bytes words ≡ codes "pipe" ∷ []
+-- the words ask for nothing that the program does
+abbrev pub AsksNothing : List (String Global) → Type 0
+AsksNothing words = (task : Task) → AsksFor (map string_bytes words) task → ⊥
 
--- the first word is `pipe`
-abbrev pub BeginsWithPipe : List (String Global) → Type 0
-BeginsWithPipe words = (rest : List (List ℕ)) × (map string_bytes words ≡ codes "pipe" ∷ rest)
+-- what files and a link tell before and after a run, and how often their reads and writes have failed
+pub record Outside (L : Type 0) : Type 0 where
+  pub octets : L → Option Octets
+  pub link_before : L
+  pub link_now : L
+  pub files_before : Option Lookup
+  pub files_now : Option Lookup
+  pub file_reads_before : ℕ
+  pub file_reads_now : ℕ
+  pub link_reads_before : ℕ
+  pub link_reads_now : ℕ
+  pub link_writes_before : ℕ
+  pub link_writes_now : ℕ
 
--- what an ending says of the link: it was served to this end, or it is as it was
-abbrev pub Leaves : {L : Type 0} → (L → Option Octets) → Ending → L → L → Type 0
-Leaves octets BadWords old new = new ≡ old
-Leaves octets OutOfMemory old new = new ≡ old
-Leaves octets (Served how) old new = Told (Serves how) (octets old) (octets new)
+module _ {L : Type 0} (outside : Outside L) where
+  -- the project file of this name was read as this
+  abbrev pub ReadsProject : List ℕ → Result ProjectView Ended → Type 0
+  ReadsProject name result = Told (FindsProject (Rose outside.file_reads_before outside.file_reads_now) name result) outside.files_before outside.files_now
 
--- A run ended with this status: its message was printed, and the link was left so.
-pub record Runs {L : Type 0} (octets : L → Option Octets) (old new : L) (faults_before faults_now : ℕ) (out_before out_now : Option (List ℕ)) (status : ℕ) : Type 0 where
-  pub ending : Ending
-  pub status_is : status ≡ status_of ending
-  pub message : Told (Prints (message_of ending) faults_before faults_now) out_before out_now
-  pub link : Leaves octets ending old new
+  -- the project file declares a project, and the link was served to this end
+  pub record ServesProject (name : List ℕ) (entries : ℕ) (how : Rattle.connection_core.specs.declared.conn_end.ConnEnd.ConnEnd) : Type 0 where
+    pub project : ProjectView
+    pub reads : ReadsProject name (Ok project)
+    pub serves : Told (ServesAlone project entries how) (outside.octets outside.link_before) (outside.octets outside.link_now)
+    pub causes : HasCauses outside.link_reads_before outside.link_reads_now outside.link_writes_before outside.link_writes_now how
 
--- the input that is still to come passes no limit, and ends behind a whole block
-pub record IsWhole (octets : Octets) : Type 0 where
+  -- no file changed, and the link is as it was
+  pub record StaysAside : Type 0 where
+    pub files : Told (λ before now. now ≡ before) outside.files_before outside.files_now
+    pub link : outside.link_now ≡ outside.link_before
+
+  -- the project file was read as this, and the link is as it was
+  pub record Refuses (name : List ℕ) (ended : Ended) : Type 0 where
+    pub reads : ReadsProject name (Err ended)
+    pub link : outside.link_now ≡ outside.link_before
+
+  -- what `pipe` with this project file and so many entries comes to, by its ending
+  abbrev pub Pipes : Ended → List ℕ → ℕ → Type 0
+  Pipes BadWords name entries = ⊥
+  Pipes OutOfMemory name entries = StaysAside
+  Pipes (CannotRead named) name entries = Refuses name (CannotRead named)
+  Pipes (FileTooLong named) name entries = Refuses name (FileTooLong named)
+  Pipes (Refused named line reason) name entries = Refuses name (Refused named line reason)
+  Pipes (Served how) name entries = ServesProject name entries how
+
+  -- what the words ask for, done to this ending
+  pub data Does (words : List (String Global)) (ended : Ended) : Type 0 where
+    nothing : AsksNothing words → ended ≡ BadWords → StaysAside → Does words ended
+    pipes : (name : List ℕ) (entries : ℕ) → AsksFor (map string_bytes words) (Pipe name entries) → Pipes ended name entries → Does words ended
+
+  -- A run ended with this status: what the words ask for was done to an ending, whose message was printed.
+  pub record Runs (words : List (String Global)) (faults_before faults_now : ℕ) (out_before out_now : Option (List ℕ)) (status : ℕ) : Type 0 where
+    pub ending : Ended
+    pub status_is : status ≡ status_of ending
+    pub message : Told (Prints (message_of ending) faults_before faults_now) out_before out_now
+    pub does : Does words ending
+
+  -- `pipe` ended with this status: so its project and its link were served, and the message of its ending was printed
+  pub record RunsPipe (name : List ℕ) (entries : ℕ) (faults_before faults_now : ℕ) (out_before out_now : Option (List ℕ)) (status : ℕ) : Type 0 where
+    pub ending : Ended
+    pub status_is : status ≡ status_of ending
+    pub message : Told (Prints (message_of ending) faults_before faults_now) out_before out_now
+    pub pipes : Pipes ending name entries
+
+-- The input that is still to come passes no limit and ends behind a whole block, and a history of so many entries has room
+-- for all that it enters, beside the three entries that any connection alone has.
+pub record IsWhole (project : ProjectView) (entries : ℕ) (octets : Octets) : Type 0 where
   pub within : PassesLimits octets.to_come → ⊥
   pub none_held : held octets.to_come ≡ 0
+  pub fits : length (acts project (blocks octets.to_come)) + 3 ≤ entries
+
+-- all that a run is to serve is there: the file declares a project, and the input of the link is whole
+pub record IsAllThere (words : List (String Global)) (files : Option Lookup) (link : Option Octets) : Type 0 where
+  pub name : List ℕ
+  pub entries : ℕ
+  pub asks : AsksFor (map string_bytes words) (Pipe name entries)
+  pub project : ProjectView
+  pub file : IsSomeAnd files (λ content. DeclaresProject (content name) project)
+  pub input : IsSomeAnd link (IsWhole project entries)
+
+-- the words name a project file that is absent, as far as the files tell
+pub record LacksFile (words : List (String Global)) (files : Option Lookup) : Type 0 where
+  pub name : List ℕ
+  pub entries : ℕ
+  pub asks : AsksFor (map string_bytes words) (Pipe name entries)
+  pub absent : IfSome files (λ content. content name ≡ None)

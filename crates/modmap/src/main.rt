@@ -2,17 +2,21 @@
 #![tactic(auto)]
 
 ghost use Rattle.std.specs.Prelude.{◌↔◌, IsTrue};
-ghost use Rattle.modmap.specs.Running.{BeginsWithPipe};
+ghost use Rattle.modmap.specs.Commands.{BeginsWithPipe};
 
 mod adapters;
 mod alone;
+mod command;
+mod disk;
 mod ending;
 mod pipe;
+mod project_file;
 #[cfg(test)]
 mod tests;
 
 use adapters::{Pipe, WriterSink};
-use alone::run_alone;
+use alone::{print_text, run_alone};
+use disk::DiskFiles;
 use std::process::ExitCode;
 use std::{env, io};
 
@@ -36,15 +40,22 @@ fn begins_with_pipe(words: &[String]) -> bool
 }
 
 fn main(rt: HostRuntime) -> ExitCode {
-    // Words that can't be had are words of no form.
-    let words = words(&rt).unwrap_or(Vec::new(rt.alloc()));
+    let Ok(words) = words(&rt) else {
+        // Want of memory for the words.
+        print_text(
+            b"modmap: out of memory\n",
+            &mut WriterSink::new(rt.stderr()),
+        );
+        return ExitCode::from(3);
+    };
+    let mut files = DiskFiles::new(&rt);
     let mut link = Pipe::new(rt.stdin(), rt.stdout());
     let status = if begins_with_pipe(&words) {
         let mut out = WriterSink::new(rt.stderr());
-        run_alone(&rt, rt.alloc(), &words, &mut link, &mut out)
+        run_alone(&rt, rt.alloc(), &words, &mut files, &mut link, &mut out)
     } else {
         let mut out = WriterSink::new(rt.stdout());
-        run_alone(&rt, rt.alloc(), &words, &mut link, &mut out)
+        run_alone(&rt, rt.alloc(), &words, &mut files, &mut link, &mut out)
     };
     ExitCode::from(status)
 }

@@ -1,25 +1,28 @@
-use Rattle.std.proofs.Common.{◌≡◌, ◌++◌, ◌-◌, refl, sym, ap, ◌∙◌, arith}
-use Rattle.std.proofs.lemmas.List.{take-append-drop}
-use Rattle.connection_core.proofs.TakeLemmas.{takes_lines, passes_octets, ended_stage}
+use Rattle.std.proofs.Common.{sym, ap, subst, ◌∙◌, refl, rules, arith}
+use Rattle.connection_core.specs.Standing.{ReaderStands}
+use Rattle.connection_core.proofs.Askable.{block_can}
+use Rattle.connection_core.proofs.Sessioning.{not_ended, reads_end, reads_nothing, block_room}
 use Rattle.connection_core.proofs.session.Session.take.Goals as goal
 
-pub returns-then-piece-room : goal.returns-then-piece-room
-returns-then-piece-room c = record {
-  took = λ fed answered h. takes_lines fed answered c.args.piece.now _ _ (c.take_lines.ensures.took fed answered h);
-  count = c.take_lines.ensures.count;
-  bound = c.take_lines.ensures.bound;
-  end = c.take_lines.ensures.end;
-  ended = λ how e. absurd (c.in_default.not-Ended how (ap (λ s. s.stage) c.self.view_is ∙ ended_stage _ how e));
-}
+pub enter_block-requires : goal.enter_block-requires
+enter_block-requires g c =
+    let reader_is = ap (λ s. s.reader) c.self.view_is in
+    let going = not_ended c.stage.result c.args.self.now.reader.stage (c.stage.ensures ∙ ap (λ r. r.stage) reader_is) c.in_default.not-Ended in
+    let stands = c.requires.stands going in
+    let block = c.in-Block.ensures.took stands.0 (subst (λ r. ReaderStands r c.args.project.now stands.0) (sym reader_is) stands.1) in
+    record {
+      serving = rw (ap (λ s. s.conn) c.self.view_is) (c.requires.serving going);
+      acts = block_can c.args.project.now c.units_differ.ensures.kinds _ block.block _ c.requires.project (c.asked-asked.ensures.asked ∙ block.kept);
+      fits = rw (ap (λ s. s.stash) c.self.view_is) c.requires.fits;
+      room = λ metered. block_room c.args.self.now _ _ c.args.project.now c.args.piece.now _ c.in-Block.used _ reader_is (c.requires.room going metered) c.in-Block.ensures.took c.asked-asked.ensures.asked;
+      places = omega (arith, c.clear.ensures.len, c.clear.ensures.capacity, c.asked-asked.ensures.few, c.self.invariant.place_room_is);
+    }
 
-pub returns-in-All : goal.returns-in-All
-returns-in-All c = record {
-  took = λ fed answered h.
-      let parts : c.args.piece.now ≡ c.split_at.result.0.now ++ c.split_at.result.1.now = rw (c.split_at.ensures.front, c.split_at.ensures.back) (sym (take-append-drop (67108864 - c.self.inside.taken) c.args.piece.now)) in
-      let before = ap (λ s. s.taken) c.self.view_is in
-      passes_octets c.args.self.now c.take_lines-2.new.self fed answered c.args.piece.now _ _ parts h (omega (arith, before, c.split_at.ensures.front_len, c.self.invariant.few_octets, c.if-piece-room.false)) (omega (arith, c.split_at.ensures.front_len, c.if-piece-room.false)) (c.in-All.ensures.took fed answered h);
-  count = tt;
-  bound = omega arith;
-  end = (refl, λ _. tt);
-  ended = λ how e. absurd (c.in_default.not-Ended how (ap (λ s. s.stage) c.self.view_is ∙ ended_stage _ how e));
-}
+pub returns-in_default-read-clause-took : goal.returns-in_default-read-clause-took
+returns-in_default-read-clause-took g c = λ fed h. c.read.ensures.took fed (subst (λ r. ReaderStands r c.args.project.now fed) (sym (ap (λ s. s.reader) c.self.view_is)) h)
+
+pub returns-in_default-read-clause-entered : goal.returns-in_default-read-clause-entered
+returns-in_default-read-clause-entered g c = λ going. reads_nothing c.read.result c.read.new.self.stage _ _ _ c.in_default-read.not-Block c.read.ensures.stage
+
+pub returns-in_default-read-clause-end : goal.returns-in_default-read-clause-end
+returns-in_default-read-clause-end g c = reads_end c.read.result _ _ c.read.ensures.stage

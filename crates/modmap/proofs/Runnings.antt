@@ -1,0 +1,102 @@
+-- What a run comes to, by its ending.
+use Rattle.std.proofs.Common.{◌≡◌, ◌≢◌, ◌⊎◌, inl, inr, ℕ, ◌≤◌, List, Option, Some, None, refl, sym, ap, ◌∙◌, arith}
+use Rattle.mm_outside.specs.Causes.{Rose}
+use Rattle.mm_outside.specs.Told.{Told}
+use Rattle.connection_core.specs.declared.conn_end.ConnEnd.{ConnEnd}
+use Rattle.connection_core.specs.declared.conn_end.ConnEnd.TheVariants.{Closed, Truncated, ReadFault, WriteFault, TooLong, BatchTooLong, HistoryFull}
+use Rattle.modmap.specs.Commands.{Pipe, AsksPipe, usual, counted, AsksFor, pipe}
+use Rattle.modmap.specs.Endings.{Ended, BadWords, OutOfMemory, CannotRead, FileTooLong, Refused, Served, status_of}
+use Rattle.std.proofs.Common.{Err}
+use Rattle.mm_outside.proofs.ToldLemmas.{Told-map}
+use Rattle.modmap.specs.ProjectFiles.{FindsProject, IsOfFile}
+use Rattle.modmap.specs.Running.{Outside, Pipes}
+
+same_entries : (a b : List ℕ) (m n : ℕ) → Pipe a m ≡ Pipe b n → m ≡ n
+same_entries a b m n e = cc
+
+bounds_behind : (words : List (List ℕ)) (name : List ℕ) (entries : ℕ) → AsksPipe words (Pipe name entries) → (3 ≤ entries) × (entries ≤ 1048576)
+bounds_behind words name entries (usual project are is) = let n = same_entries name project entries 65536 is in (omega (arith, n), omega (arith, n))
+bounds_behind words name entries (counted project word count are spelled is) = let n = same_entries name project entries count is in (omega (arith, n, spelled.at_least), omega (arith, n, spelled.at_most))
+
+-- the entries that are asked for lie between the bounds
+pub asked_bounds : (words : List (List ℕ)) (name : List ℕ) (entries : ℕ) → AsksFor words (Pipe name entries) → (3 ≤ entries) × (entries ≤ 1048576)
+asked_bounds words name entries (pipe rest are asked) = bounds_behind rest name entries asked
+
+module _ {L : Type 0} (outside : Outside L) (name : List ℕ) (entries : ℕ) where
+  conn_two : (how : ConnEnd) → status_of (Served how) ≢ 2
+  conn_two Closed e = omega (arith, e)
+  conn_two (Truncated lines) e = omega (arith, e)
+  conn_two ReadFault e = omega (arith, e)
+  conn_two WriteFault e = omega (arith, e)
+  conn_two TooLong e = omega (arith, e)
+  conn_two BatchTooLong e = omega (arith, e)
+  conn_two (HistoryFull m n) e = omega (arith, e)
+
+  -- words that ask for `pipe` aren't answered as bad
+  pub never_two : (ended : Ended) → Pipes outside ended name entries → status_of ended ≢ 2
+  never_two BadWords h e = h
+  never_two OutOfMemory h e = omega (arith, e)
+  never_two (CannotRead named) h e = omega (arith, e)
+  never_two (FileTooLong named) h e = omega (arith, e)
+  never_two (Refused named line reason) h e = omega (arith, e)
+  never_two (Served how) h e = conn_two how e
+
+  -- the link is as it was after want of memory, and where the file is refused
+  aside : (ended : Ended) → Pipes outside ended name entries → ((how : ConnEnd) → ended ≡ Served how → ⊥) → outside.link_now ≡ outside.link_before
+  aside BadWords h none = absurd h
+  aside OutOfMemory h none = h.link
+  aside (CannotRead named) h none = h.link
+  aside (FileTooLong named) h none = h.link
+  aside (Refused named line reason) h none = h.link
+  aside (Served how) h none = absurd (none how refl)
+
+  conn_three : (how : ConnEnd) → (status_of (Served how) ≡ 3) ⊎ (status_of (Served how) ≡ 6) → ⊥
+  conn_three Closed (inl e) = omega (arith, e)
+  conn_three Closed (inr e) = omega (arith, e)
+  conn_three (Truncated lines) (inl e) = omega (arith, e)
+  conn_three (Truncated lines) (inr e) = omega (arith, e)
+  conn_three ReadFault (inl e) = omega (arith, e)
+  conn_three ReadFault (inr e) = omega (arith, e)
+  conn_three WriteFault (inl e) = omega (arith, e)
+  conn_three WriteFault (inr e) = omega (arith, e)
+  conn_three TooLong (inl e) = omega (arith, e)
+  conn_three TooLong (inr e) = omega (arith, e)
+  conn_three BatchTooLong (inl e) = omega (arith, e)
+  conn_three BatchTooLong (inr e) = omega (arith, e)
+  conn_three (HistoryFull m n) (inl e) = omega (arith, e)
+  conn_three (HistoryFull m n) (inr e) = omega (arith, e)
+
+  pub untouched : (ended : Ended) (status : ℕ) → status ≡ status_of ended → Pipes outside ended name entries → (status ≡ 2) ⊎ ((status ≡ 3) ⊎ (status ≡ 6)) → outside.link_now ≡ outside.link_before
+  untouched ended status is h (inl two) = absurd (never_two ended h (sym is ∙ two))
+  untouched ended status is h (inr (inl three)) = aside ended h (λ how e. conn_three how (inl (sym (ap status_of e) ∙ sym is ∙ three)))
+  untouched ended status is h (inr (inr six)) = aside ended h (λ how e. conn_three how (inr (sym (ap status_of e) ∙ sym is ∙ six)))
+
+  conn_five : (how : ConnEnd) → status_of (Served how) ≡ 5 → how ≡ WriteFault
+  conn_five Closed e = absurd (omega (arith, e))
+  conn_five (Truncated lines) e = absurd (omega (arith, e))
+  conn_five ReadFault e = absurd (omega (arith, e))
+  conn_five WriteFault e = refl
+  conn_five TooLong e = absurd (omega (arith, e))
+  conn_five BatchTooLong e = absurd (omega (arith, e))
+  conn_five (HistoryFull m n) e = absurd (omega (arith, e))
+
+  pub fault_of_write : (ended : Ended) (status : ℕ) → status ≡ status_of ended → Pipes outside ended name entries → status ≡ 5 → Rose outside.link_writes_before outside.link_writes_now
+  fault_of_write BadWords status is h five = absurd h
+  fault_of_write OutOfMemory status is h five = absurd (omega (arith, is, five))
+  fault_of_write (CannotRead named) status is h five = absurd (omega (arith, is, five))
+  fault_of_write (FileTooLong named) status is h five = absurd (omega (arith, is, five))
+  fault_of_write (Refused named line reason) status is h five = absurd (omega (arith, is, five))
+  fault_of_write (Served how) status is h five = h.causes.write (conn_five how (sym is ∙ five))
+
+-- a project file that brings an ending
+pub refused_so : {L : Type 0} (outside : Outside L) (name : List ℕ) (entries : ℕ) (ended : Ended) → IsOfFile ended → Told (FindsProject (Rose outside.file_reads_before outside.file_reads_now) name (Err ended)) outside.files_before outside.files_now → outside.link_now ≡ outside.link_before → Pipes outside ended name entries
+refused_so outside name entries BadWords kind reads link = absurd kind
+refused_so outside name entries OutOfMemory kind reads link = record { files = Told-map (λ a b found. found.same) reads; link = link }
+refused_so outside name entries (CannotRead named) kind reads link = record { reads = reads; link = link }
+refused_so outside name entries (FileTooLong named) kind reads link = record { reads = reads; link = link }
+refused_so outside name entries (Refused named line reason) kind reads link = record { reads = reads; link = link }
+refused_so outside name entries (Served how) kind reads link = absurd kind
+
+pub none_left : {A : Type 0} (r : Option A) → ((x : A) → r ≡ Some x → ⊥) → r ≡ None
+none_left None h = refl
+none_left (Some x) h = absurd (h x refl)
