@@ -1,0 +1,11 @@
+pub mod Counts
+pub mod Histories
+pub mod OwnEntries
+pub mod Fitting
+pub mod Turning
+pub mod Recording
+pub mod Seating
+pub mod Closing
+pub mod Turns
+pub mod Joining
+pub mod Telling

@@ -1,0 +1,9 @@
+use Rattle.ruled_history.specs.Seats.{Seated}
+use Rattle.ruled_history.proofs.Telling.{told_sound}
+use Rattle.ruled_history.proofs.shared.SharedDeskDesk.done.Goals as goal
+
+pub returns-clause-sound : goal.returns-clause-sound
+returns-clause-sound g c =
+    let key = c.self.inside.board.now.table.shared.key in
+    let desk : Seated g.row.S.Denot = record { opening = key.opening.value; metered = key.metered; seat = record { registry = c.record_and_pass.new.place.table_id; knows = c.record_and_pass.new.place.me.0 } } in
+    told_sound g.S.Shelf.kept g.S.Shelf.held desk c.record_and_pass.ensures.learns

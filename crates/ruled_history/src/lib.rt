@@ -1,0 +1,13 @@
+//! One history that many threads make together, each at a desk of its own, on a table of three words and a slot.
+#![tactic(auto)]
+
+mod bell;
+mod board;
+mod registry;
+mod shared;
+mod turn;
+
+pub use bell::Bell;
+pub use board::{Stage, View};
+pub use registry::{Registry, Seat};
+pub use shared::SharedDesk;
