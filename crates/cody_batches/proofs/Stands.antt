@@ -50,7 +50,7 @@ over_answers s after fed c o h = at_true (has_long_block (fed ++ c ∷ [])) _ _ 
 
 -- ---- an octet within a line
 
-kept_over : (s : Standing) (tail : List ℕ) (c : ℕ) → (kept_behind s tail c).over ≡ s.over
+pub kept_over : (s : Standing) (tail : List ℕ) (c : ℕ) → (kept_behind s tail c).over ≡ s.over
 kept_over s [] c = refl
 kept_over s (x ∷ []) c = refl
 kept_over s (x ∷ y ∷ rest) c = over_cond (ltb s.scan.at 8190) _ _ refl refl

@@ -1,5 +1,5 @@
 -- How the intake works on what it keeps: working definitions of private functions, and no part of what it means.
-use Rattle.std.specs.Prelude.{◌≡◌, ℕ, ◌+◌, Bool, true, false, not, ◌==◌, ◌&&◌, nat_lt, if◌then◌else◌, List, [], ◌∷◌}
+use Rattle.std.specs.Prelude.{◌≡◌, ℕ, ◌+◌, Bool, true, false, not, ◌==◌, ◌&&◌, nat_lt, if◌then◌else◌, List, [], ◌∷◌, length}
 use Rattle.std.specs.Bool.{MatchBool}
 use Rattle.cody_words.specs.declared.reason.Reason.TheVariants.{LineTooLong}
 use Rattle.cody_words.specs.declared.reader.Reading.{Reading}
@@ -36,6 +36,15 @@ kept_behind standing (before ∷ last ∷ rest) octet =
 -- with one octet more of the begun line
 abbrev pub kept : Standing → ℕ → Standing
 kept standing octet = kept_behind standing standing.tail octet
+
+-- the scan of a begun line but for these last octets: a new one where there is none
+abbrev pub begun_scan : Scan → List ℕ → Scan
+begun_scan scan [] = start
+begun_scan scan (last ∷ rest) = scan
+
+-- how many octets of the begun line were scanned or wait
+abbrev pub line_len : Standing → ℕ
+line_len standing = (begun_scan standing.scan standing.tail).at + length standing.tail
 
 -- the mark of these two octets
 abbrev pub ends_marked : ℕ → ℕ → Bool

@@ -3,11 +3,14 @@
 //! Nothing is kept of a line but its words so far, where its scan stands, and its last two octets, which may turn
 //! out to be the mark. Nothing is kept of a block but the number of its lines.
 
-ghost use Rattle.std.specs.Prelude.{◌≢◌, All, ◌≡◌, ◌+◌, ◌↔◌, ◌∷◌, [], ◌++◌, ◌<◌, ◌≤◌, List, ℕ, length, false, IsTrue, IfOk};
+ghost use Rattle.std.specs.Prelude.{◌≢◌, All, ◌≡◌, ◌+◌, ◌↔◌, ◌∷◌, [], ◌++◌, ◌<◌, ◌≤◌, List, ℕ, length, false, nat_le, IsTrue, IfOk};
+ghost use Rattle.std.specs.List.{fold};
 ghost use Rattle.cody_words.specs.Octets.{newline};
+ghost use Rattle.cody_words.specs.Lines.{longest_line};
+ghost use Rattle.cody_words.specs.Scan.{step as scan_step};
 ghost use Rattle.cody_batches.specs.Blocks.{held, has_long_block, most_lines};
 ghost use Rattle.cody_batches.specs.Feeding.{Answers, StandsAfter, words_of};
-ghost use Rattle.cody_batches.specs.Working.{kept, line_ended, most_scanned, ReadsKept, ReadsTail, tail_octets, tail_marked, counted, step_of};
+ghost use Rattle.cody_batches.specs.Working.{begun_scan, line_len, kept, line_ended, most_scanned, ReadsKept, ReadsTail, tail_octets, tail_marked, counted, step_of};
 
 use cody_words::{LONGEST_LINE, Reading, Reason, Scanner, Words, is_white};
 use mm_outside::Memory;
@@ -139,9 +142,10 @@ impl Intake {
         requires { All (λ octet. octet ≢ newline) octets.now }
         ensures { (fed : List ℕ) → StandsAfter self.old fed → StandsAfter self.new (fed ++ octets.now) }
     {
-        for octet in octets {
-            let _ = self.feed(*octet);
+        if self.over {
+            return;
         }
+        self.keep_run(octets);
     }
 
     /// The words of the line that ended last, where the last octet brought `Message`. They stand until the next
@@ -167,6 +171,48 @@ impl Intake {
         ensures { (fed : List ℕ) → StandsAfter self.now fed → has_long_block fed ≡ false → IsTrue result ↔ (held fed ≡ 0) }
     {
         self.lines_held() == 0
+    }
+
+    /// Keeps more octets of the line. Where they don't make it too long, all but the last two are scanned as a run.
+    fn keep_run(&mut self, octets: &[u8])
+        ensures { self.new ≡ fold kept self.old octets.now }
+    {
+        match octets {
+            [front @ .., before, last] if self.has_room(front) => {
+                scan_tail(&mut self.scanner, self.tail);
+                self.scanner.push_run(front);
+                self.tail = Tail::Two(*before, *last);
+            }
+            _ => self.keep_each(octets),
+        }
+    }
+
+    /// Whether the tail and these octets behind it may be scanned.
+    fn has_room(&self, octets: &[u8]) -> bool
+        ensures { result ≡ nat_le (line_len self.now + length octets.now) most_scanned }
+    {
+        self.line_len() as usize + octets.len() <= MOST_SCANNED as usize
+    }
+
+    /// The octets of the begun line, but for those that came when it was too long.
+    fn line_len(&self) -> u32
+        ensures len { result ≡ line_len self.now }
+        ensures bound { result ≤ longest_line + 2 }
+    {
+        match self.tail {
+            Tail::Nothing => 0,
+            Tail::One(_) => self.scanner.at() + 1,
+            Tail::Two(_, _) => self.scanner.at() + 2,
+        }
+    }
+
+    /// Keeps more octets of the line, one by one.
+    fn keep_each(&mut self, octets: &[u8])
+        ensures { self.new ≡ fold kept self.old octets.now }
+    {
+        for octet in octets {
+            self.keep(*octet);
+        }
     }
 
     /// Keeps one more octet of the line.
@@ -232,6 +278,21 @@ impl Intake {
         }
         self.lines = if more { self.lines + 1 } else { 0 };
         step
+    }
+}
+
+/// Scans the last octets of a begun line. Where there is none, a line begins.
+fn scan_tail(scanner: &mut Scanner, tail: Tail)
+    requires { (begun_scan scanner.old (tail_octets tail)).at + length (tail_octets tail) ≤ longest_line }
+    ensures { scanner.new ≡ fold scan_step (begun_scan scanner.old (tail_octets tail)) (tail_octets tail) }
+{
+    match tail {
+        Tail::Nothing => scanner.clear(),
+        Tail::One(last) => scanner.push(last),
+        Tail::Two(before, last) => {
+            scanner.push(before);
+            scanner.push(last);
+        }
     }
 }
 

@@ -7,6 +7,7 @@ pub mod Told
 pub mod Verdicts
 pub mod Cuts
 pub mod Rooms
+pub mod Runs
 pub mod Written
 pub mod Fits
 pub mod Canon

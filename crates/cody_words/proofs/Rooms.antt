@@ -98,6 +98,6 @@ step_roomy Escape words at c h = escape_roomy words at c _ h.owes.0 h.owes.1 h.f
 step_roomy (Digit value) words at c h = digit_roomy words at value c (hex_value c) h.owes.0 h.owes.1 h.few
 step_roomy (Refused place reason) words at c h = record { owes = tt; few = omega (arith, h.few) }
 
-run_roomy : (octets : List ℕ) (s : Scan) → RoomyScan s → RoomyScan (fold step s octets)
+pub run_roomy : (octets : List ℕ) (s : Scan) → RoomyScan s → RoomyScan (fold step s octets)
 run_roomy [] s h = h
 run_roomy (c ∷ octets) s h = run_roomy octets (step s c) (step_roomy s.mode s.words s.at c (record { owes = h.owes; few = h.few }))

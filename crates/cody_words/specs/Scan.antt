@@ -1,6 +1,6 @@
 -- The scan of a body, octet by octet: how the reader works, and no part of what a line means.
 use Rattle.std.specs.Prelude.{ℕ, ◌+◌, ◌-◌, ◌*◌, Bool, ◌||◌, ◌&&◌, not, ◌==◌, nat_lt, nat_le, if◌then◌else◌, List, [], ◌∷◌, ◌++◌, Option, Some, None}
-use Rattle.std.specs.List.{fold}
+use Rattle.std.specs.List.{fold, position_or_len}
 use Rattle.cody_words.specs.declared.reason.Reason.TheVariants.{ControlOctet, BackslashOutside, UnknownEscape, StraySemicolon, UnclosedQuote}
 use Rattle.cody_words.specs.declared.mode.Mode.{Mode}
 use Rattle.cody_words.specs.declared.mode.Mode.TheVariants.{Between, Semicolon, Outside, Inside, Escape, Digit, Refused}
@@ -20,6 +20,10 @@ is_white c = c == space || c == tab
 -- whether the octet stands nowhere in a body
 abbrev pub is_control : ℕ → Bool
 is_control c = (nat_lt c space && not (c == tab)) || c == delete
+
+-- the octet doesn't stand for itself outside quotes
+abbrev pub is_special : ℕ → Bool
+is_special c = nat_le c space || c == apostrophe || c == backslash || c == delete
 
 -- the value of a hexadecimal digit
 abbrev pub hex_value : ℕ → Option ℕ
@@ -104,6 +108,16 @@ step_in (Refused place reason) words at c = goes words at (Refused place reason)
 -- one octet
 abbrev pub step : Scan → ℕ → Scan
 step scan c = step_in scan.mode scan.words scan.at c
+
+-- how many octets, from the first on, may be appended to the last word at once in this mode
+abbrev pub run_len : Mode → List ℕ → ℕ
+run_len Outside octets = position_or_len is_special octets
+run_len Between octets = 0
+run_len Semicolon octets = 0
+run_len Inside octets = 0
+run_len Escape octets = 0
+run_len (Digit value) octets = 0
+run_len (Refused place reason) octets = 0
 
 -- before the first octet
 abbrev pub start : Scan

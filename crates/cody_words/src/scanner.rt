@@ -1,11 +1,13 @@
 //! The scan of a line's body, octet by octet.
 
-ghost use Rattle.std.specs.Prelude.{◌≡◌, ◌<◌, ◌≤◌, IfOk};
+ghost use Rattle.std.specs.Prelude.{◌≡◌, ◌+◌, ◌<◌, ◌≤◌, IfOk, false, length, take, position};
+ghost use Rattle.std.specs.List.{AllByRecursion, fold, position_or_len};
 ghost use Rattle.cody_words.specs.Lines.{longest_line};
 ghost use Rattle.cody_words.specs.Reading.{told, more_of};
-ghost use Rattle.cody_words.specs.Scan.{start, step, verdict};
+ghost use Rattle.cody_words.specs.Scan.{start, step, is_special, run_len, verdict};
+ghost use Rattle.cody_words.specs.declared.mode.Mode.TheVariants.{Outside};
 
-use crate::mode::Mode;
+use crate::mode::{Mode, is_special};
 use crate::reader::Reading;
 use crate::reason::Reason;
 use crate::words::Words;
@@ -74,6 +76,59 @@ impl Scanner {
         self.at += 1;
     }
 
+    /// Scans more octets, as `push` does each of them.
+    pub fn push_run(&mut self, octets: &[u8])
+        requires { self.old.at + length octets.now ≤ longest_line }
+        ensures { self.new ≡ fold step self.old octets.now }
+    {
+        let mut rest = octets;
+        while !rest.is_empty() {
+            let count = self.push_some(rest);
+            let (_, behind) = rest.split_at(count);
+            rest = behind;
+        }
+    }
+
+    /// Scans some of the octets, and returns how many: in a word outside quotes all up to the next
+    /// special one, and else the first alone.
+    fn push_some(&mut self, octets: &[u8]) -> usize
+        requires some { 0 < length octets.now }
+        requires room { self.old.at + length octets.now ≤ longest_line }
+        ensures scan { self.new ≡ fold step self.old (take result octets.now) }
+        ensures some { 0 < result }
+        ensures within { result ≤ length octets.now }
+    {
+        let count = self.run_len(octets);
+        if count == 0 {
+            self.push(octets[0]);
+            return 1;
+        }
+        let (run, _) = octets.split_at(count);
+        self.extend(run);
+        count
+    }
+
+    /// How many of the octets may be appended to the last word at once.
+    fn run_len(&self, octets: &[u8]) -> usize
+        ensures { result ≡ run_len self.now.mode octets.now }
+    {
+        match self.mode {
+            Mode::Outside => bare_len(octets),
+            _ => 0,
+        }
+    }
+
+    /// Appends octets to the last word that stand for themselves.
+    fn extend(&mut self, run: &[u8])
+        requires room { self.old.at + length run.now ≤ longest_line }
+        requires run { self.old.mode ≡ Outside }
+        requires bare { AllByRecursion (λ octet. is_special octet ≡ false) run.now }
+        ensures { self.new ≡ fold step self.old run.now }
+    {
+        self.words.extend(run);
+        self.at += run.len() as u32;
+    }
+
     /// The words so far. They are those of the body where `end` answers `Words`.
     pub fn words(&self) -> &Words
         ensures { result.now ≡ self.now.words }
@@ -105,4 +160,21 @@ impl Scanner {
         };
         Reading::Malformed { at, reason, more }
     }
+}
+
+/// How many octets, from the first on, stand for themselves outside quotes.
+fn bare_len(octets: &[u8]) -> usize
+    ensures { result ≡ position_or_len is_special octets.now }
+{
+    match place_of_special(octets) {
+        Some(place) => place,
+        None => octets.len(),
+    }
+}
+
+/// The place of the first octet that doesn't stand for itself outside quotes.
+fn place_of_special(octets: &[u8]) -> Option<usize>
+    ensures { result ≡ position is_special octets.now }
+{
+    octets.iter().position(|octet| is_special(*octet))
 }

@@ -1,6 +1,7 @@
 //! The words of one line.
 
 ghost use Rattle.std.specs.Prelude.{◌≡◌, ◌+◌, ◌<◌, ◌≤◌, ◌++◌, ◌∷◌, ◌↔◌, [], length, IfOk, IsTrue, slice_get, Some};
+ghost use Rattle.std.specs.List.{fold};
 ghost use Rattle.cody_words.specs.Pieces.{total, cut, InOrder};
 ghost use Rattle.cody_words.specs.Canonical.{line_room};
 ghost use Rattle.cody_words.specs.Lines.{longest_line};
@@ -100,6 +101,15 @@ impl Words {
         ensures { self.new ≡ with_octet self.old octet }
     {
         self.octets.push(octet).unwrap();
+    }
+
+    /// Appends octets to the last word.
+    pub(crate) fn extend(&mut self, octets: &[u8])
+        requires begun { 0 < length self.old }
+        requires room { total self.old + length octets.now ≤ longest_line }
+        ensures { self.new ≡ fold with_octet self.old octets.now }
+    {
+        self.octets.extend_from_slice(octets).unwrap();
     }
 }
 
