@@ -7,3 +7,4 @@ pub mod Idle
 pub mod Entered
 pub mod Keeping
 pub mod Alone
+pub mod AtDesk

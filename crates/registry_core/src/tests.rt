@@ -1,11 +1,12 @@
 //! Worked examples on a book, as tables: what is entered, and with which entry each reply comes.
 
-ghost use Rattle.std.specs.Prelude.{◌≡◌, ◌+◌, ◌<◌, ◌≤◌, length, IsTrue, IsFalse};
+ghost use Rattle.std.specs.Prelude.{◌≡◌, ◌+◌, ◌<◌, ◌≤◌, length, Contains, IsTrue, IsFalse};
+ghost use Rattle.std.specs.List.{range_with_len};
 ghost use Rattle.unit_registry.specs.Projects.{unit_count, is_plain};
 ghost use Rattle.histories.specs.Answered.{stored_unit};
 ghost use Rattle.histories.specs.Counts.{Asks, effect_of};
 ghost use Rattle.histories.specs.Histories.{is_out_of_range};
-ghost use Rattle.registry_core.specs.Ledgers.{open_in, done_in};
+ghost use Rattle.registry_core.specs.Ledgers.{is_open_in, opened_in, open_in, done_in};
 ghost use Rattle.registry_core.specs.Shelves.{ComesWith};
 
 use super::*;
@@ -420,6 +421,80 @@ fn fetches(alloc: Global) -> bool {
     book.fetch(alloc, 0) == Ok(Some(())) && book.fetch(alloc, 1) == Ok(None)
 }
 
+/// Whether the act of the connection is entered at the desk, and answered so.
+fn desk_asks(
+    desk: &mut SoloDesk<NoShelf>,
+    project: &Project,
+    conn: u32,
+    act: Act,
+    answer: Answer,
+) -> bool
+    requires project { desk.old.book.ledger.project ≡ project.now }
+    requires own { Contains (range_with_len 0 (opened_in desk.old.book.ledger)) conn }
+    requires there { IsTrue (is_open_in desk.old.book.ledger conn) }
+    ensures project { IsTrue result → desk.new.book.ledger.project ≡ project.now }
+    ensures own { IsTrue result → Contains (range_with_len 0 (opened_in desk.new.book.ledger)) conn }
+    ensures there { IsTrue result → IsTrue (is_open_in desk.new.book.ledger conn) }
+{
+    if !is_asked(act) || !has_unit(project, act) {
+        return false;
+    }
+    let Ok(place) = desk.ask(conn, act, item_of(act)) else {
+        return false;
+    };
+    desk.look(place) == Some(answer)
+}
+
+/// Whether each act of the connection is entered at the desk, and answered so.
+fn desk_replays(
+    desk: &mut SoloDesk<NoShelf>,
+    project: &Project,
+    conn: u32,
+    acts: &[(Act, Answer)],
+) -> bool
+    requires project { desk.old.book.ledger.project ≡ project.now }
+    requires own { Contains (range_with_len 0 (opened_in desk.old.book.ledger)) conn }
+    requires there { IsTrue (is_open_in desk.old.book.ledger conn) }
+    ensures project { IsTrue result → desk.new.book.ledger.project ≡ project.now }
+{
+    for asked in acts {
+        let (act, answer) = *asked;
+        if !desk_asks(desk, project, conn, act, answer) {
+            return false;
+        }
+    }
+    true
+}
+
+/// A unit is compiled at the desk of whoever has the book alone, and its item is fetched there.
+fn compiled_alone(alloc: Global) -> bool {
+    let Ok(project) = read(alloc, PROJECT) else {
+        return false;
+    };
+    let _count = project.unit_count();
+    let Ok(book) = Book::new(alloc, &project, 1, 40, NoShelf::new()) else {
+        return false;
+    };
+    let acts = [
+        (hello(0), Answer::Hello),
+        (export(0), Answer::Path(0)),
+        (import(0), Answer::Refused(Refusal::ImportCycle)),
+        (stored(0), Answer::Done),
+        (import(0), Answer::Path(0)),
+    ];
+    if !is_free(&book, 1) {
+        return false;
+    }
+    let mut desk = SoloDesk::new(book);
+    let Ok(conn) = desk.open() else {
+        return false;
+    };
+    desk_replays(&mut desk, &project, conn, &acts)
+        && project.unit_count() == 4
+        && desk.fetch(alloc, 0) == Ok(Some(()))
+        && desk.fetch(alloc, 1) == Ok(None)
+}
+
 #[test]
 fn worked_examples(rt: HostRuntime) {
     assert!(rt; replayed_wait(rt.alloc()));
@@ -442,4 +517,5 @@ fn rings_in_each_order(rt: HostRuntime) {
 #[test]
 fn kept_items(rt: HostRuntime) {
     assert!(rt; fetches(rt.alloc()));
+    assert!(rt; compiled_alone(rt.alloc()));
 }

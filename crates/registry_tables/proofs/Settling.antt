@@ -99,14 +99,12 @@ settled_graph t before g = record g { pairs = filter (λ p. not (is_ended_in t b
 pub graph_start : (t : Tabled) (g : Graph) → g ≡ settled_graph t [] g
 graph_start t g = ap (λ (ps : List (ℕ × ℕ)). with_pairs g ps) (pass_all g.pairs)
 
-true_and : (a b : Bool) → a ≡ true → (a && b) ≡ b
-true_and true b e = refl
-true_and false b e = absurd (true≢false (sym e))
+settled_step : (t : Tabled) (w : Waiting) (before : List Waiting) (g0 g g' : Graph) (none : Bool) → is_none (fate_in t w.unit) ≡ none → g ≡ settled_graph t before g0 → (is_none (fate_in t w.unit) ≡ false → g' ≡ record g { pairs = filter (λ p. not (p.1 == w.unit)) g.pairs }) → (is_none (fate_in t w.unit) ≡ true → g' ≡ g) → g' ≡ settled_graph t (w ∷ before) g0
+settled_step t w before g0 g g' true stays was gone same =
+    same stays ∙ was ∙ ap (λ ps. with_pairs g0 ps) (settles_none t w before g0.pairs (ap (λ b. not b) stays))
+settled_step t w before g0 g g' false ended was gone same =
+    gone ended ∙ ap (λ (x : Graph). with_pairs x (filter (λ p. not (p.1 == w.unit)) x.pairs)) was ∙ ap (λ ps. with_pairs g0 ps) (settles_more t w before g0.pairs (ap (λ b. not b) ended))
 
-pub graph_ended : (t : Tabled) (w : Waiting) (before : List Waiting) (g0 g g' : Graph) (within b : Bool) → within ≡ true → b ≡ (within && not (is_none (fate_in t w.unit))) → b ≡ true → g ≡ settled_graph t before g0 → g' ≡ record g { pairs = filter (λ p. not (p.1 == w.unit)) g.pairs } → g' ≡ settled_graph t (w ∷ before) g0
-graph_ended t w before g0 g g' within b inside is ended was now =
-    now ∙ ap (λ (x : Graph). with_pairs x (filter (λ p. not (p.1 == w.unit)) x.pairs)) was ∙ ap (λ ps. with_pairs g0 ps) (settles_more t w before g0.pairs (sym (true_and within _ inside) ∙ sym is ∙ ended))
-
-pub graph_stays : (t : Tabled) (w : Waiting) (before : List Waiting) (g0 g : Graph) (within b : Bool) → within ≡ true → b ≡ (within && not (is_none (fate_in t w.unit))) → b ≡ false → g ≡ settled_graph t before g0 → g ≡ settled_graph t (w ∷ before) g0
-graph_stays t w before g0 g within b inside is no_end was =
-    was ∙ ap (λ ps. with_pairs g0 ps) (settles_none t w before g0.pairs (sym (true_and within _ inside) ∙ sym is ∙ no_end))
+-- the pairs that are left after one more import
+pub graph_step : (t : Tabled) (w : Waiting) (before : List Waiting) (g0 g g' : Graph) → g ≡ settled_graph t before g0 → (is_none (fate_in t w.unit) ≡ false → g' ≡ record g { pairs = filter (λ p. not (p.1 == w.unit)) g.pairs }) → (is_none (fate_in t w.unit) ≡ true → g' ≡ g) → g' ≡ settled_graph t (w ∷ before) g0
+graph_step t w before g0 g g' was gone same = settled_step t w before g0 g g' (is_none (fate_in t w.unit)) refl was gone same

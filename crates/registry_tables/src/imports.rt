@@ -220,9 +220,18 @@ fn settle_ended(waiting: &[Waiting], tables: &Tables, graph: &mut Waits)
     ensures { graph.new ≡ record graph.old { pairs = filter (λ pair. not (is_ended_in tables.now (reverse waiting.now) pair.1)) graph.old.pairs } }
 {
     for waiter in waiting {
-        if tables.has_ended(waiter.unit) {
-            graph.settle(waiter.unit);
-        }
+        settle_unit(waiter.unit, tables, graph);
+    }
+}
+
+/// Removes the pairs to the unit, where it has ended.
+fn settle_unit(unit: u32, tables: &Tables, graph: &mut Waits)
+    requires { unit < unit_count tables.now.project }
+    ensures ended { is_none (fate_in tables.now unit) ≡ false → graph.new ≡ record graph.old { pairs = filter (λ pair. not (pair.1 == unit)) graph.old.pairs } }
+    ensures open { is_none (fate_in tables.now unit) ≡ true → graph.new ≡ graph.old }
+{
+    if tables.fate(unit).is_some() {
+        graph.settle(unit);
     }
 }
 
