@@ -1,9 +1,9 @@
 -- The rule at the start, and what it says of a seat with all worker numbers.
-use Rattle.std.proofs.Common.{◌≡◌, ◌≢◌, ⊎_elim, ℕ, zero, suc, ◌+◌, ◌-◌, ◌<◌, ◌≤◌, Bool, List, [], ◌∷◌, length, All, Some, IsTrue, IsFalse, refl, sym, ap, subst, ◌∙◌, inl, inr, arith}
-use Rattle.std.specs.Prelude.{Option, sum_by, count_by, slice_get}
+use Rattle.std.proofs.Common.{◌≡◌, ℕ, zero, suc, ◌+◌, ◌-◌, ◌<◌, ◌≤◌, Bool, List, [], ◌∷◌, length, Some, IsTrue, IsFalse, refl, sym, ap, subst, ◌∙◌, inl, inr, arith}
+use Rattle.std.specs.Prelude.{Option}
 use Rattle.std.proofs.lemmas.List.Elements.{All-nil}
 use mathlib.Core.Logic.{dite}
-use mathlib.Core.Option.{some, none, some-injective, some-ne-none}
+use mathlib.Core.Option.{some, some-injective, some-ne-none}
 use native.Mathlib.Decide.{ℕ_discrete}
 use lib.ListN.{get_elem?}
 use Rattle.atomic_table.specs.Table.{State, opening as table_at_start}
@@ -13,8 +13,8 @@ use Rattle.histories.specs.Entries.{no_connection}
 use Rattle.registry_core.specs.Ledgers.{LedgerView, IsLedger}
 use Rattle.ruled_history.specs.declared.board.View.{View}
 use Rattle.ruled_history.specs.declared.board.Stage.TheVariants.{Idle, Serves}
-use Rattle.ruled_history.specs.Runs.{AreAllPlaces, times, once_below, made_at}
-use Rattle.ruled_history.specs.Rule.{SeatFits, SlotFits, RoomFits, Ruled}
+use Rattle.ruled_history.specs.Runs.{AreAllPlaces, once_below, made_at}
+use Rattle.ruled_history.specs.Rule.{SeatFits, SlotFits}
 use Rattle.ruled_history.specs.Views.{with_entries, tickets_at, tickets, share_of, first_view}
 use Rattle.ruled_history.proofs.Counts.{sum_two, made_all}
 use Rattle.ruled_history.proofs.Histories.{all_got}

@@ -1,9 +1,9 @@
 -- Sums, counts and beginnings of lists.
-use Rattle.std.proofs.Common.{◌⊎◌, nat_lt, Bool, true, false, cond, inl, inr, ◌-◌, ◌≡◌, ◌≢◌, ℕ, zero, suc, ◌+◌, ◌<◌, ◌≤◌, ◌==◌, List, [], ◌∷◌, ◌++◌, length, set, Contains, refl, sym, ap, ◌∙◌, arith, append_assoc, length-append, zero-add, add-zero, add-suc, ap₂, eq-eqb, ne_eqb}
-use Rattle.std.specs.Prelude.{if◌then◌else◌, sum_by, count_by, slice_get, Option, Some, None}
+use Rattle.std.proofs.Common.{◌⊎◌, nat_lt, Bool, true, false, cond, inl, inr, ◌≡◌, ◌≢◌, ℕ, zero, suc, ◌+◌, ◌<◌, ◌≤◌, ◌==◌, List, [], ◌∷◌, ◌++◌, length, set, Contains, refl, sym, ap, ◌∙◌, arith, append_assoc, length-append, zero-add, add-zero, ap₂, eq-eqb, ne_eqb}
+use Rattle.std.specs.Prelude.{if◌then◌else◌, sum_by, count_by, slice_get, Some}
 use Rattle.std.proofs.lemmas.Bool.Decides.{nat_tests}
 use Rattle.std.proofs.lemmas.List.{append-nil}
-use Rattle.std.proofs.lemmas.List.Sums.{sum_by-cons, sum_by-append, sum_by_push}
+use Rattle.std.proofs.lemmas.List.Sums.{sum_by-cons, sum_by-append}
 use mathlib.Core.Logic.{dite}
 use native.Mathlib.Decide.{ℕ_discrete, dec_lt}
 use mathlib.Core.Option.{some, some-injective, some-ne-none}

@@ -1,24 +1,24 @@
 -- What holds of one seat and of the slot, and stays while others step.
-use Rattle.std.proofs.Common.{◌≡◌, ◌≢◌, ◌⊎◌, inl, inr, ⊎_elim, ℕ, zero, suc, ◌+◌, ◌-◌, ◌<◌, ◌≤◌, ◌==◌, nat_lt, Bool, true, false, List, [], ◌∷◌, ◌++◌, length, set, All, Some, IsTrue, IsFalse, refl, sym, ap, ap₂, subst, ◌∙◌, arith, length-append, append-nil}
-use Rattle.std.specs.Prelude.{Option, slice_get, count_by, sum_by, if◌then◌else◌}
+use Rattle.std.proofs.Common.{◌≡◌, ◌≢◌, inl, inr, ⊎_elim, ℕ, ◌+◌, ◌<◌, ◌≤◌, ◌==◌, List, [], ◌∷◌, ◌++◌, length, set, All, Some, IsTrue, refl, sym, ap, subst, ◌∙◌, arith}
+use Rattle.std.specs.Prelude.{Option, slice_get, count_by, if◌then◌else◌}
 use Rattle.std.proofs.lemmas.Bool.Decides.{nat_tests}
 use mathlib.Core.Logic.{dite}
 use mathlib.Core.Option
 use mathlib.Core.Option.{some, none, some-injective, some-ne-none}
-use native.Mathlib.Decide.{ℕ_discrete, dec_lt}
+use native.Mathlib.Decide.{ℕ_discrete}
 use lib.ListN.{get_elem?}
 use Rattle.atomic_table.proofs.Lists.{at_set, set_here, set_else, at_longer}
 use Rattle.unit_registry.specs.Acts.{is_done}
 use Rattle.histories.specs.declared.entry.Entry.{Entry}
 use Rattle.histories.specs.Entries.{no_connection}
-use Rattle.registry_core.specs.Ledgers.{LedgerView, IsLedger, is_open_in, opened_in}
+use Rattle.registry_core.specs.Ledgers.{LedgerView, IsLedger, is_open_in}
 use Rattle.registry_core.proofs.Desks.{slice_get_behind, slice_get_before}
 use Rattle.ruled_history.specs.declared.board.View.{View}
 use Rattle.ruled_history.specs.declared.board.Stage.{Stage}
 use Rattle.ruled_history.specs.declared.board.Stage.TheVariants.{Idle, Waits, Serves}
-use Rattle.ruled_history.specs.Runs.{StartsWith, times, Has, made_at}
+use Rattle.ruled_history.specs.Runs.{StartsWith, Has}
 use Rattle.ruled_history.specs.Rule.{HasTurn, SeatFits, SlotFits}
-use Rattle.ruled_history.specs.Views.{with_entries, tickets_at, tickets, is_done_at, first_view, spent, at_stage, sees, Knows}
+use Rattle.ruled_history.specs.Views.{with_entries, tickets_at, is_done_at, spent, at_stage, sees, Knows}
 use Rattle.ruled_history.proofs.Counts.{in_list, begins_all, begins_trans, begins_whole, count_same, made_past, made_le, made_none}
 use Rattle.ruled_history.proofs.Histories.{ledger_front, open_since, all_front, few_opened}
 use Rattle.ruled_history.proofs.OwnEntries.{dones_stay}

@@ -1,18 +1,17 @@
 -- What the steps use of histories.
-use Rattle.std.proofs.Common.{◌≡◌, ◌≢◌, ℕ, zero, suc, ◌+◌, ◌<◌, ◌≤◌, Bool, true, false, not, cond, List, [], ◌∷◌, ◌++◌, length, map, All, Option, Some, None, IsTrue, IsFalse, is_none, refl, sym, ap, subst, ◌∙◌, arith, append-nil, append_assoc, length-append, get_or}
+use Rattle.std.proofs.Common.{◌≡◌, ◌≢◌, ℕ, suc, ◌+◌, ◌<◌, ◌≤◌, Bool, true, false, List, [], ◌∷◌, ◌++◌, length, All, Some, IsTrue, IsFalse, is_none, refl, sym, ap, subst, ◌∙◌, arith, append-nil, append_assoc, length-append, get_or}
 use Rattle.std.specs.Prelude.{slice_get}
 use Rattle.std.proofs.lemmas.List.{get_or_append_left}
 use Rattle.std.proofs.lemmas.Option.{slice_get_within, get_or_from_slice_get}
-use Rattle.unit_registry.specs.Projects.{ProjectView}
 use Rattle.unit_registry.specs.declared.act.Act.{Act}
 use Rattle.unit_registry.specs.declared.act.Act.TheVariants.{Open, Hello, Repo, Export, Import, Compiled, Translate, Bad, Pause, Left, Lost, Done}
 use Rattle.unit_registry.specs.Acts.{is_open_act, is_done}
 use Rattle.histories.specs.declared.entry.Entry.{Entry}
 use Rattle.histories.specs.declared.answered.Answered.{Answered}
 use Rattle.histories.specs.Entries.{no_connection}
-use Rattle.histories.specs.Answered.{is_open, opened, opening, opened_count, open_count, done_count, reserved}
+use Rattle.histories.specs.Answered.{is_open, opened_count}
 use Rattle.histories.specs.Noted.{Noted, answered_of}
-use Rattle.histories.specs.Histories.{noted_of, and_then, answered_in, IsLegal}
+use Rattle.histories.specs.Histories.{noted_of, answered_in, IsLegal}
 use Rattle.histories.specs.Counts.{Effect, Opens, Asks, Goes, Ends, effect_of, ChangesOpened, ChangesOpen, ChangesDone, ChangesReserved, ChangesOwn, MayCome}
 use Rattle.histories.proofs.Acyclic.{answered_entry}
 use Rattle.histories.proofs.Legality.{noted_push, legal_prefix, legal_push, length-noted_of}

@@ -9,3 +9,7 @@ pub mod Closing
 pub mod Turns
 pub mod Joining
 pub mod Telling
+pub mod Worked
+pub mod FourUnits
+pub mod Rounds
+pub mod Sent

@@ -1,6 +1,6 @@
 -- What an entry of a seat's own changes for the seat.
-use Rattle.std.proofs.Common.{◌≡◌, ◌≢◌, ◌⊎◌, inl, inr, ⊎_elim, ℕ, zero, suc, ◌+◌, ◌-◌, ◌<◌, ◌≤◌, Bool, true, false, cond, List, [], ◌∷◌, ◌++◌, length, All, IsTrue, IsFalse, Some, refl, sym, ap, ap₂, subst, ◌∙◌, arith, add-zero, length-append, true≢false}
-use Rattle.std.specs.Prelude.{slice_get, count_by}
+use Rattle.std.proofs.Common.{◌≡◌, ◌⊎◌, inl, inr, ⊎_elim, ℕ, zero, suc, ◌+◌, ◌<◌, ◌≤◌, Bool, true, false, List, [], ◌∷◌, ◌++◌, length, IsTrue, IsFalse, refl, sym, ap, subst, ◌∙◌, arith, add-zero, true≢false}
+use Rattle.std.specs.Prelude.{count_by}
 use Rattle.std.specs.Option.{option_map_or}
 use mathlib.Core.Logic.{dite}
 use native.Mathlib.Decide.{ℕ_discrete, dec_lt}
@@ -11,13 +11,13 @@ use Rattle.histories.specs.Counts.{Effect, Opens, Asks, Goes, Ends, effect_of, C
 use Rattle.histories.specs.Histories.{noted_of}
 use Rattle.registry_core.specs.Ledgers.{LedgerView, IsLedger, Passes, is_open_in, opened_in}
 use Rattle.registry_core.specs.Desks.{connections_with, uses}
-use Rattle.registry_core.proofs.Desks.{slice_get_behind, slice_get_before}
+use Rattle.registry_core.proofs.Desks.{slice_get_behind}
 use Rattle.ruled_history.specs.declared.board.View.{View}
-use Rattle.ruled_history.specs.Runs.{StartsWith, times, Has, made_at}
+use Rattle.ruled_history.specs.Runs.{times, Has}
 use Rattle.ruled_history.specs.Rule.{SeatFits}
-use Rattle.ruled_history.specs.Views.{with_entries, is_done_at, opened_after, dones_after, HasWorker, MayAddBy}
-use Rattle.ruled_history.proofs.Counts.{one_if, begins_all, count_same, count-append, count_one, count_less, count_some, has_left, has_snoc, has_last, once_snoc, got_left}
-use Rattle.ruled_history.proofs.Histories.{opens, goes, ends, does_end, done_ends, own_more, may_enter, open_other, few_opened, numbered}
+use Rattle.ruled_history.specs.Views.{with_entries, is_done_at, opened_after, dones_after, MayAddBy}
+use Rattle.ruled_history.proofs.Counts.{one_if, count_same, count-append, count_one, count_less, has_left, has_snoc, has_last, once_snoc}
+use Rattle.ruled_history.proofs.Histories.{opens, goes, ends, does_end, done_ends, own_more, may_enter, open_other, few_opened}
 
 -- ---- Dones among the own places
 

@@ -1,25 +1,25 @@
 -- Recording an entry keeps the rule.
-use Rattle.std.proofs.Common.{◌≡◌, ◌≢◌, ◌⊎◌, ⊎_elim, ℕ, zero, suc, ◌+◌, ◌-◌, ◌%◌, ◌^◌, ◌<◌, ◌≤◌, nat_lt, Bool, true, false, List, [], ◌∷◌, ◌++◌, length, get_or, set, All, Some, IsTrue, IsFalse, refl, sym, ap, ap₂, subst, ◌∙◌, inl, inr, arith, length-append}
+use Rattle.std.proofs.Common.{◌≡◌, ◌⊎◌, ⊎_elim, ℕ, ◌+◌, ◌-◌, ◌%◌, ◌^◌, ◌<◌, ◌≤◌, nat_lt, Bool, true, false, List, [], ◌∷◌, ◌++◌, length, get_or, set, Some, IsTrue, IsFalse, refl, sym, ap, subst, ◌∙◌, inl, inr, arith, length-append}
 use Rattle.std.specs.Prelude.{Option, sum_by, count_by, slice_get, if◌then◌else◌}
 use Rattle.std.proofs.lemmas.Bool.Decides.{nat_tests}
 use Rattle.std.proofs.lemmas.List.Elements.{All-push}
 use mathlib.Core.Option.{some, none}
 use lib.ListN.{get_elem?}
-use Rattle.atomic_table.specs.Table.{State, step, keeps, Allows}
+use Rattle.atomic_table.specs.Table.{step, keeps, Allows}
 use Rattle.atomic_table.proofs.Lists.{set_here}
 use Rattle.unit_registry.specs.Acts.{is_done}
 use Rattle.histories.specs.declared.entry.Entry.{Entry}
 use Rattle.histories.specs.Entries.{no_connection}
 use Rattle.histories.specs.Counts.{effect_of}
-use Rattle.registry_core.specs.Ledgers.{LedgerView, IsLedger, Passes, is_open_in, opened_in, reserved_in}
+use Rattle.registry_core.specs.Ledgers.{LedgerView, IsLedger, Passes, is_open_in, opened_in}
 use Rattle.registry_core.specs.Desks.{connections_with, uses}
 use Rattle.ruled_history.specs.declared.board.View.{View}
 use Rattle.ruled_history.specs.declared.board.Stage.TheVariants.{Serves}
-use Rattle.ruled_history.specs.Runs.{StartsWith, Has, made_at, in_run}
-use Rattle.ruled_history.specs.Rule.{HasTurn, SeatFits, RoomFits, Ruled}
+use Rattle.ruled_history.specs.Runs.{StartsWith, Has, in_run}
+use Rattle.ruled_history.specs.Rule.{HasTurn, SeatFits, RoomFits}
 use Rattle.ruled_history.specs.Steps.{recorded}
 use Rattle.ruled_history.specs.Views.{with_entries, tickets, share_of, opened_of, dones_of, room_of, adds, MayAdd}
-use Rattle.ruled_history.proofs.Counts.{sum_set, in_list, begins_all, begins_more, snoc_same, got_end, got_within, count_same, in_run_out, made_before, made_last, made_here, own_place, own_early, other_place}
+use Rattle.ruled_history.proofs.Counts.{sum_set, in_list, begins_all, begins_more, snoc_same, got_end, got_within, in_run_out, made_before, made_last, made_here, own_place, own_early, other_place}
 use Rattle.ruled_history.proofs.Histories.{opens, goes, ends, fits_in, ledger_push, opened_more, open_more, done_more, reserved_more, few_opened, numbered}
 use Rattle.ruled_history.proofs.OwnEntries.{Changes, changes, dones_with}
 use Rattle.ruled_history.proofs.Fitting.{seats_set, turn_recorded, slot_away, slot_kept}

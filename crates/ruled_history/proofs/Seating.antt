@@ -1,20 +1,20 @@
 -- Splitting and joining seats keep the rule.
-use Rattle.std.proofs.Common.{◌≡◌, ◌≢◌, ◌⊎◌, ⊎_elim, ℕ, zero, suc, ◌+◌, ◌-◌, ◌<◌, ◌≤◌, ◌==◌, nat_lt, Bool, true, false, List, [], ◌∷◌, ◌++◌, length, set, Some, IsTrue, refl, sym, ap, ap₂, subst, ◌∙◌, inl, inr, arith, length-append, length-set}
-use Rattle.std.specs.Prelude.{Option, sum_by, count_by, slice_get, if◌then◌else◌}
+use Rattle.std.proofs.Common.{◌≡◌, ◌≢◌, ⊎_elim, ℕ, ◌+◌, ◌-◌, ◌<◌, ◌≤◌, ◌==◌, nat_lt, Bool, List, [], ◌∷◌, ◌++◌, length, set, refl, sym, ap, ap₂, subst, ◌∙◌, arith, length-set}
+use Rattle.std.specs.Prelude.{count_by, if◌then◌else◌}
 use Rattle.std.proofs.lemmas.Bool.Decides.{nat_tests}
 use Rattle.std.proofs.lemmas.List.Sums.{sum_by_push}
 use mathlib.Core.Logic.{dite}
 use mathlib.Core.Option.{some, none}
 use native.Mathlib.Decide.{dec_lt}
 use lib.ListN.{get_elem?}
-use Rattle.atomic_table.specs.Table.{State, Splits, Joins}
+use Rattle.atomic_table.specs.Table.{Splits, Joins}
 use Rattle.atomic_table.proofs.Lists.{at_set, set_else, at_longer}
 use Rattle.histories.specs.declared.entry.Entry.{Entry}
 use Rattle.registry_core.specs.Ledgers.{LedgerView, is_open_in}
 use Rattle.ruled_history.specs.declared.board.View.{View}
 use Rattle.ruled_history.specs.declared.board.Stage.TheVariants.{Idle}
-use Rattle.ruled_history.specs.Runs.{StartsWith, times, Has, made_at}
-use Rattle.ruled_history.specs.Rule.{HasTurn, SeatFits, RoomFits, Ruled}
+use Rattle.ruled_history.specs.Runs.{times, made_at}
+use Rattle.ruled_history.specs.Rule.{HasTurn, SeatFits, RoomFits}
 use Rattle.ruled_history.specs.Views.{with_entries, tickets_at, tickets, share_of, opened_of, dones_of, room_of, is_done_at, rest_of, cut_off, longer, joined, spent}
 use Rattle.ruled_history.proofs.Counts.{sum_set, begins_length, times-append, made_join, made_le, longer_begins, count_same, count-append, has_left, has_right, has_either, once_joined, at_end, append_none}
 use Rattle.ruled_history.proofs.Fitting.{seats_set, grown, dones_grown, spent_fits, longest_kept, longest_joined, slot_longer, slot_kept}

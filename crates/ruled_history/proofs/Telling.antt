@@ -1,12 +1,11 @@
 -- What a desk tells, by what its seat knows, before and after a turn.
-use Rattle.std.proofs.Common.{◌≡◌, ◌≢◌, ◌⊎◌, inl, inr, ℕ, zero, suc, ◌+◌, ◌-◌, ◌<◌, ◌≤◌, Bool, true, false, ◌||◌, ◌&&◌, List, [], ◌∷◌, ◌++◌, length, All, Contains, get_or, Option, Some, None, is_some, IsTrue, IsFalse, refl, sym, ap, ap₂, subst, ◌∙◌, arith, true≢false}
-use Rattle.std.specs.Prelude.{slice_get, if◌then◌else◌, Result, Ok, Err, IfErr, IsOk}
+use Rattle.std.proofs.Common.{◌≡◌, ℕ, ◌+◌, ◌-◌, ◌<◌, ◌≤◌, Bool, true, false, ◌||◌, ◌&&◌, List, [], ◌∷◌, ◌++◌, length, All, get_or, Option, Some, None, is_some, refl, sym, ap, ap₂, subst, ◌∙◌, arith, true≢false}
+use Rattle.std.specs.Prelude.{if◌then◌else◌, Result, Ok, Err, IfErr, IsOk}
 use Rattle.std.proofs.lemmas.Bool.{and_parts}
 use Rattle.std.proofs.lemmas.List.Elements.{Contains-get_or}
 use mathlib.Core.Logic.{dite}
 use native.Mathlib.Decide.{dec_lt}
-use Rattle.atomic_table.specs.Seated.{TableId}
-use Rattle.unit_registry.specs.Acts.{is_done, names}
+use Rattle.unit_registry.specs.Acts.{names}
 use Rattle.histories.specs.declared.entry.Entry.{Entry}
 use Rattle.histories.specs.declared.answered.Answered.{Answered}
 use Rattle.histories.specs.Answered.{is_accepted, is_stored, stored_unit, stores}
@@ -24,7 +23,7 @@ use Rattle.ruled_history.specs.declared.board.View.{View}
 use Rattle.ruled_history.specs.declared.board.Stage.TheVariants.{Idle, Serves}
 use Rattle.ruled_history.specs.Runs.{StartsWith, Has, times}
 use Rattle.ruled_history.specs.Views.{with_entries, adds, at_stage, sees, opened_after, dones_after, Knows}
-use Rattle.ruled_history.specs.Seats.{Seated, Sitting, StandsAfter, IsServing, told_seated}
+use Rattle.ruled_history.specs.Seats.{Seated, StandsAfter, IsServing, told_seated}
 use Rattle.ruled_history.proofs.Counts.{has_contained, contains_had, count_some}
 use Rattle.ruled_history.proofs.Histories.{goes}
 

@@ -1,22 +1,21 @@
 -- Drawing a ticket, looking at serving, passing the turn: each keeps the rule.
-use Rattle.std.proofs.Common.{◌≡◌, ◌≢◌, ⊎_elim, ℕ, zero, suc, ◌+◌, ◌-◌, ◌%◌, ◌^◌, ◌<◌, ◌≤◌, Bool, true, List, [], ◌∷◌, ◌++◌, length, get_or, set, Some, IsTrue, refl, sym, ap, ap₂, subst, ◌∙◌, inl, inr, arith}
-use Rattle.std.specs.Prelude.{Option, sum_by, count_by, slice_get}
+use Rattle.std.proofs.Common.{◌≡◌, ℕ, ◌+◌, ◌%◌, ◌^◌, ◌<◌, ◌≤◌, Bool, List, [], ◌∷◌, length, get_or, set, Some, refl, sym, ap, subst, ◌∙◌, inl, inr, arith}
+use Rattle.std.specs.Prelude.{Option, sum_by}
 use mathlib.Core.Logic.{dite}
-use mathlib.Core.Option
-use mathlib.Core.Option.{some, none, some-injective}
+use mathlib.Core.Option.{some, none}
 use native.Mathlib.Decide.{ℕ_discrete}
 use lib.ListN.{get_elem?}
 use lib.Seq.{set-get_or}
 use Rattle.atomic_table.specs.Table.{State, Me, step, keeps, takes, gives, stepped, Allows}
 use Rattle.atomic_table.proofs.Lists.{set_here, set_again, one_turn}
 use Rattle.histories.specs.declared.entry.Entry.{Entry}
-use Rattle.registry_core.specs.Ledgers.{LedgerView, open_in, done_in, reserved_in}
+use Rattle.registry_core.specs.Ledgers.{LedgerView}
 use Rattle.ruled_history.specs.declared.board.View.{View}
 use Rattle.ruled_history.specs.declared.board.Stage.TheVariants.{Idle, Waits, Serves}
 use Rattle.ruled_history.specs.Runs.{StartsWith, Has}
-use Rattle.ruled_history.specs.Rule.{HasTurn, SeatFits, SlotFits, RoomFits, Ruled}
+use Rattle.ruled_history.specs.Rule.{HasTurn, SeatFits, RoomFits, Ruled}
 use Rattle.ruled_history.specs.Steps.{AtTurn, drew, Served, looked, passed, learnt}
-use Rattle.ruled_history.specs.Views.{with_entries, tickets_at, tickets, share_of, opened_of, dones_of, room_of, spent, at_stage, sees, HasWorker, Knows}
+use Rattle.ruled_history.specs.Views.{tickets_at, tickets, share_of, opened_of, dones_of, room_of, at_stage, sees, Knows}
 use Rattle.ruled_history.proofs.Counts.{sum_set, sum_at, sum_le, sum_lt, sum_both, in_list, begins_all}
 use Rattle.ruled_history.proofs.Fitting.{now_has, now_has-same, turn_drawn, turn_passed, turn_moved, seats_set, one_slot, restaged, grown, seen_all, known, longest_kept, at_home, slot_kept, put_home}
 

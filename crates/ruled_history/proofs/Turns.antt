@@ -1,5 +1,5 @@
 -- What a turn tells, put together from its steps.
-use Rattle.std.proofs.Common.{◌≡◌, Bool, ℕ, ◌+◌, ◌%◌, ◌^◌, ◌<◌, length, ◌∷◌, ◌++◌, List, [], arith, Some, None, sym, ap, subst, ◌∙◌}
+use Rattle.std.proofs.Common.{◌≡◌, Bool, ℕ, ◌+◌, ◌%◌, ◌^◌, ◌<◌, length, ◌∷◌, ◌++◌, List, [], Some, None, sym, ap, subst, ◌∙◌}
 use Rattle.std.specs.Prelude.{Option}
 use mathlib.Core.Option.{some, none, some-injective}
 use lib.ListN.{get_elem?}

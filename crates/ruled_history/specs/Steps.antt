@@ -1,5 +1,5 @@
 -- What each step tells of the seat that makes it.
-use Rattle.std.specs.Prelude.{◌≡◌, ◌≢◌, ℕ, ◌+◌, ◌^◌, ◌%◌, ◌<◌, ◌≤◌, Bool, List, [], ◌∷◌, ◌++◌, length, Option, Some}
+use Rattle.std.specs.Prelude.{◌≡◌, ◌≢◌, ℕ, ◌+◌, ◌^◌, ◌%◌, ◌<◌, ◌≤◌, List, [], ◌∷◌, ◌++◌, length, Option, Some}
 use Rattle.atomic_table.specs.Table.{Me, Step}
 use Rattle.histories.specs.declared.entry.Entry.{Entry}
 use Rattle.registry_core.specs.Ledgers.{LedgerView, is_open_in, open_in, done_in, reserved_in}

@@ -1,5 +1,5 @@
 -- What a seat knows, and what each step makes of it.
-use Rattle.std.specs.Prelude.{◌≡◌, ℕ, ◌+◌, ◌-◌, ◌<◌, ◌≤◌, nat_lt, Bool, true, false, List, [], ◌∷◌, ◌++◌, length, All, count_by, slice_get, Option, Some, None, IsTrue, IsFalse, if◌then◌else◌}
+use Rattle.std.specs.Prelude.{◌≡◌, ℕ, ◌+◌, ◌-◌, ◌<◌, ◌≤◌, nat_lt, Bool, false, List, [], ◌∷◌, ◌++◌, length, All, count_by, slice_get, Some, IsTrue, IsFalse, if◌then◌else◌}
 use Rattle.std.specs.Option.{option_map_or}
 use Rattle.unit_registry.specs.Acts.{is_done}
 use Rattle.histories.specs.declared.entry.Entry.{Entry}

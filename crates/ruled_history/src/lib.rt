@@ -11,3 +11,12 @@ pub use bell::Bell;
 pub use board::{Stage, View};
 pub use registry::{Registry, Seat};
 pub use shared::SharedDesk;
+
+#[cfg(test)]
+mod examples;
+#[cfg(test)]
+mod tests;
+#[cfg(test)]
+mod two_seats;
+#[cfg(test)]
+mod two_threads;

@@ -1,11 +1,11 @@
-use Rattle.std.proofs.Common.{rules, ◌≡◌, ◌++◌, List, length, refl, sym, ap, subst, ◌∙◌}
+use Rattle.std.proofs.Common.{rules, ◌≡◌, List, length, sym, ap, subst, ◌∙◌}
 use Rattle.histories.specs.declared.entry.Entry.{Entry}
 use Rattle.registry_core.specs.Books.{BookView}
 use Rattle.ruled_history.specs.declared.board.Stage.TheVariants.{Idle}
 use Rattle.ruled_history.specs.declared.board.View.{View}
 use Rattle.ruled_history.specs.Runs.{StartsWith, AreAllPlaces}
 use Rattle.ruled_history.specs.Seats.{Shared, StandsAfter}
-use Rattle.ruled_history.proofs.Turns.{Ended, ended}
+use Rattle.ruled_history.proofs.Turns.{ended}
 use Rattle.ruled_history.proofs.registry.Registry.close.Goals as goal
 
 pub unreachable-requires : goal.unreachable-requires

@@ -1,9 +1,9 @@
-use Rattle.std.proofs.Common.{rules, refl, arith, ◌+◌, ◌-◌, ◌≤◌, ◌<◌, Bool, true, false, ◌≡◌, ◌∷◌, [], ◌++◌, List, ap, sym, subst, ◌∙◌, Some, IsFalse}
+use Rattle.std.proofs.Common.{rules, refl, arith, ◌+◌, ◌≤◌, Bool, true, false, ◌≡◌, ◌∷◌, [], ◌++◌, List, ap, sym, subst, ◌∙◌, Some, IsFalse}
 use Rattle.std.specs.Prelude.{Option}
 use Rattle.atomic_table.specs.Table.{opening as table_at_start}
 use Rattle.histories.specs.declared.entry.Entry.{Entry}
 use Rattle.registry_core.specs.Books.{BookView}
-use Rattle.registry_core.specs.Ledgers.{LedgerView, IsLedger}
+use Rattle.registry_core.specs.Ledgers.{IsLedger}
 use Rattle.ruled_history.specs.Rule.{Ruled}
 use Rattle.ruled_history.specs.Seats.{StandsAfter, first_room}
 use Rattle.ruled_history.specs.Views.{with_entries, first_view}

@@ -1,6 +1,6 @@
-use Rattle.std.proofs.Common.{rules, ◌≡◌, ◌+◌, ◌<◌, ◌≤◌, ℕ, [], ◌∷◌, ◌++◌, length, Contains, IsTrue, refl, sym, ap, ap₂, subst, ◌∙◌, arith, true}
+use Rattle.std.proofs.Common.{◌≡◌, ◌<◌, ◌≤◌, length, Contains, IsTrue, sym, ap, subst, ◌∙◌, arith}
 use Rattle.histories.specs.declared.entry.Entry.{Entry}
-use Rattle.histories.specs.Counts.{Effect, Asks, effect_of}
+use Rattle.histories.specs.Counts.{Effect, effect_of}
 use Rattle.registry_core.specs.Ledgers.{entry}
 use Rattle.registry_core.specs.Desks.{Adds}
 use Rattle.ruled_history.specs.declared.board.Stage.TheVariants.{Idle}

@@ -1,7 +1,7 @@
-use Rattle.std.proofs.Common.{rules, ◌≡◌, ◌+◌, ◌<◌, ◌≤◌, ℕ, [], ◌∷◌, ◌++◌, length, Contains, refl, sym, ap, ap₂, subst, ◌∙◌, arith, true}
+use Rattle.std.proofs.Common.{rules, ◌≡◌, ◌<◌, ◌≤◌, [], ◌∷◌, ◌++◌, length, Contains, refl, sym, ap, subst, ◌∙◌, arith, true}
 use Rattle.unit_registry.specs.declared.act.Act.{Act}
 use Rattle.histories.specs.declared.entry.Entry.{Entry}
-use Rattle.histories.specs.Counts.{Effect, Goes, effect_of}
+use Rattle.histories.specs.Counts.{Effect, effect_of}
 use Rattle.registry_core.specs.Ledgers.{entry, leaving, is_open_in}
 use Rattle.registry_core.specs.Desks.{Adds}
 use Rattle.ruled_history.specs.declared.board.Stage.TheVariants.{Idle}

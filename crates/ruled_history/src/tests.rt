@@ -1,0 +1,91 @@
+//! The worked examples, with memory enough.
+
+use crate::two_seats::{fetches, two_seats};
+use crate::two_threads::{Told, two_threads};
+use registry_core::{Answer, Entry};
+use std::test::Fail;
+use unit_registry::Act;
+
+/// An entry.
+fn of(conn: u32, act: Act) -> Entry {
+    Entry { conn, act }
+}
+
+#[test]
+fn two_seats_make_seven_entries(rt: HostRuntime) -> Result<(), Fail> {
+    let run = two_seats(&rt, rt.alloc()).ok_or("the places are as expected")?;
+    let entries = [
+        of(0, Act::Open),
+        of(
+            0,
+            Act::Hello {
+                version: 1,
+                unit: Some(0),
+            },
+        ),
+        of(0, Act::Export { unit: Some(0) }),
+        of(
+            0,
+            Act::Compiled {
+                unit: Some(0),
+                stored: false,
+            },
+        ),
+        of(1, Act::Open),
+        of(
+            1,
+            Act::Hello {
+                version: 1,
+                unit: None,
+            },
+        ),
+        of(
+            1,
+            Act::Import {
+                unit: Some(0),
+                name_only: false,
+            },
+        ),
+    ];
+    assert!(rt; run.reported == Some(Answer::Done));
+    assert!(rt; run.imported == Some(Answer::Path(0)));
+    assert!(rt; run.book.entries() == entries.as_slice());
+    Ok(())
+}
+
+/// Whether the entries have, at each of these places, a request of the connection, and the places rise.
+fn has_asked(entries: &[Entry], told: &Told) -> bool {
+    let mut before = 0;
+    let mut right = true;
+    for place in told.places.iter() {
+        if *place <= before || entries.get(*place as usize) != Some(&of(told.conn, Act::Repo)) {
+            right = false;
+        }
+        before = *place;
+    }
+    right
+}
+
+/// How many entries are of the connection.
+fn count_of(entries: &[Entry], conn: u32) -> usize {
+    entries.iter().filter(|entry| entry.conn == conn).count()
+}
+
+#[test]
+fn two_threads_make_204_entries(rt: HostRuntime) -> Result<(), Fail> {
+    let run = two_threads(&rt, rt.alloc(), 100).ok_or("there is memory and room")?;
+    let entries = run.book.entries();
+    assert_eq!(rt; entries.len(), 204);
+    assert!(rt; run.one.conn != run.two.conn);
+    for told in [&run.one, &run.two] {
+        assert_eq!(rt; told.places.len(), 100);
+        assert_eq!(rt; count_of(entries, told.conn), 102);
+        assert!(rt; has_asked(entries, told));
+    }
+    Ok(())
+}
+
+#[test]
+fn kept_items_are_fetched(rt: HostRuntime) {
+    assert!(rt; fetches(&rt, rt.alloc()));
+}
