@@ -8,18 +8,15 @@ use Rattle.module_units.specs.declared.parts.Import.{Import as ImportOf}
 use Rattle.module_units.specs.Reading.{SourceReading, Good, Bad}
 use Rattle.unit_registry.specs.Projects.{ProjectView, name_of, find_unit}
 use Rattle.export_lists.specs.Lists.{Cmi}
-use Rattle.export_lists.specs.Outcomes.{Origin, FromSource, FromCmi, cmi_in, Interfaces, interface_at, imported_cmi, put_first, gathered, outcome_over, outcome_of_source, step, at_start, cmi_of, outcome_at}
-
--- each unit with an interface has it among others too
-pub record Within (has more : Interfaces) : Type 0 where
-  pub each : (unit : ℕ) (cmi : Cmi) → has unit ≡ Some cmi → more unit ≡ Some cmi
+use Rattle.export_lists.specs.Outcomes.{Origin, FromSource, FromCmi, cmi_in, Interfaces, interface_at, imported_cmi, put_first, gathered, outcome_over, outcome_of_source, step, at_start, cmi_of}
+use Rattle.export_lists.specs.Slots.{Within, at_depth}
 
 interface_within : (has more : Interfaces) → Within has more → (unit : Option ℕ) (cmi : Cmi) → interface_at unit has ≡ Some cmi → interface_at unit more ≡ Some cmi
 interface_within has more w None cmi e = e
 interface_within has more w (Some unit) cmi e = w.each unit cmi e
 
 -- an import's interface and the rest, where all are there
-put_first_ok : (own : Option Cmi) (name : List ℕ) (rest : Result (List Cmi) (List ℕ)) (cmis : List Cmi) → put_first own name rest ≡ Ok cmis → (cmi : Cmi) × (others : List Cmi) × (own ≡ Some cmi) × (rest ≡ Ok others) × (cmis ≡ cmi ∷ others)
+pub put_first_ok : (own : Option Cmi) (name : List ℕ) (rest : Result (List Cmi) (List ℕ)) (cmis : List Cmi) → put_first own name rest ≡ Ok cmis → (cmi : Cmi) × (others : List Cmi) × (own ≡ Some cmi) × (rest ≡ Ok others) × (cmis ≡ cmi ∷ others)
 put_first_ok None name rest cmis e = absurd (cc)
 put_first_ok (Some cmi) name (Ok others) cmis e = (cmi, others, refl, refl, cc)
 put_first_ok (Some cmi) name (Err other) cmis e = absurd (cc)
@@ -56,10 +53,6 @@ pub start_within : (project : ProjectView) (has : Interfaces) (number : ℕ) (or
 start_within project has number (Some (FromSource reading)) cmi e = absurd (cc)
 start_within project has number (Some (FromCmi built)) cmi e = e
 start_within project has number None cmi e = e
-
--- the interfaces at a depth
-abbrev pub at_depth : ProjectView → List Origin → ℕ → Interfaces
-at_depth project origins depth unit = cmi_of (outcome_at project origins depth unit)
 
 -- one deeper there is what there was
 pub deeper : (project : ProjectView) (origins : List Origin) (depth : ℕ) → Within (at_depth project origins depth) (at_depth project origins (suc depth))

@@ -71,7 +71,7 @@ pub more : {X : Type 0} (f : X → List Listed) (before entries after : List Lis
 more f before entries after xs k x listed e same was now =
     now ∙ ap (with_entries entries) same ∙ ap (λ es. with_entries es (f x)) was ∙ sym (entries_more f before xs k x e)
 
-zip_all : {X Y : Type 0} (xs : List X) (ys : List Y) (k : ℕ) → length xs ≤ k → take k (zip xs ys) ≡ zip xs ys
+pub zip_all : {X Y : Type 0} (xs : List X) (ys : List Y) (k : ℕ) → length xs ≤ k → take k (zip xs ys) ≡ zip xs ys
 zip_all [] ys k le = take_all k [] (omega arith)
 zip_all (x ∷ xs) [] k le = take_all k [] (omega arith)
 zip_all (x ∷ xs) (y ∷ ys) zero le = absurd (omega arith)

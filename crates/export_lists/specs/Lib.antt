@@ -13,3 +13,9 @@ pub mod Reports
 pub mod Worked
 pub mod Generated
 pub mod Drawings
+pub mod OwnKeys
+pub mod CmiFaults
+pub mod Drafts
+pub mod Stands
+pub mod Listings
+pub mod Slots

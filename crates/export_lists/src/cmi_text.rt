@@ -40,7 +40,7 @@ fn append_entry<'a>(
 }
 
 /// Appends the lines of entries, each behind the same first word.
-fn append_entries(
+pub(crate) fn append_entries(
     alloc: Global,
     first: &[u8],
     entries: &[Listed],

@@ -240,7 +240,12 @@ fn interface_over(
 }
 
 /// What a unit of this name compiles to over the interfaces of its imports, which are lent.
-fn compile_over(alloc: Global, unit: &Unit, name: &[u8], cmis: &[&Cmi]) -> Result<Cmi, SourceError>
+pub(crate) fn compile_over(
+    alloc: Global,
+    unit: &Unit,
+    name: &[u8],
+    cmis: &[&Cmi],
+) -> Result<Cmi, SourceError>
     requires { length cmis.now ≡ length unit.now.imports }
     ensures cmi { IfOk result (λ cmi. compiled name.now unit.now (lent cmis.now) ≡ Ok cmi) }
     ensures refused { IfErr result (TellsFault (compiled name.now unit.now (lent cmis.now))) }

@@ -42,7 +42,7 @@ impl<'a> Model for Entries<'a> {
 }
 
 /// The number of a kind of declaration.
-fn kind_number(kind: DeclKind) -> u8
+pub(crate) fn kind_number(kind: DeclKind) -> u8
     ensures { result ≡ kind_number kind }
 {
     match kind {

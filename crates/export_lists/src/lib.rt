@@ -7,20 +7,33 @@
 //!
 //! What a unit exports and sees stands in `specs/Lists.antt`, what it compiles to in
 //! `specs/Compiling.antt`, and the unit that a source is in a project in `specs/Sources.antt`. The
-//! outcomes of all units of a project and the report on them are defined in `specs/Outcomes.antt` and
-//! `specs/Reports.antt`.
+//! outcome of a unit is defined in `specs/Outcomes.antt`, the outcomes of all units of a project in
+//! `specs/Listings.antt`, and the report on them in `specs/Reports.antt`.
 #![tactic(auto)]
 
 mod cmi;
+mod cmi_error;
+mod cmi_reader;
+#[cfg(test)]
+mod cmi_tests;
 mod cmi_text;
 mod compile;
+mod copies;
+mod distinct;
+mod draft;
 mod draws;
 mod entries;
 mod generated;
+mod grammar;
 mod laws;
 mod lines;
 mod listed;
+mod listing;
+#[cfg(test)]
+mod listing_tests;
 mod outcome;
+mod rounds;
+mod slots;
 mod source;
 #[cfg(test)]
 mod tests;
@@ -28,9 +41,12 @@ mod types;
 mod words;
 
 pub use cmi::Cmi;
+pub use cmi_error::CmiError;
 pub use compile::{compile_unit, view_of};
 pub use generated::{Generated, generate};
-pub use laws::one_source;
+pub use laws::{one_cmi_reading, one_listing, one_source, written_cmi_is_read};
 pub use listed::Listed;
+pub use listing::{Listing, list_project};
 pub use outcome::{Outcome, Verdict};
+pub use slots::built_count;
 pub use source::unit_for;

@@ -1,0 +1,44 @@
+-- Entries that are read, and the keys of their set.
+use Rattle.std.proofs.Common.{◌≡◌, ◌<◌, Bool, true, false, not, ◌&&◌, List, [], ◌∷◌, ◌++◌, length, map, Some, None, if◌then◌else◌, ap, sym, ◌∙◌, refl}
+use Rattle.std.specs.Prelude.{nat_lt}
+use Rattle.std.specs.List.{list_any}
+use Rattle.std.proofs.lemmas.Bool.{lt-ltb}
+use Rattle.export_lists.specs.declared.distinct.OwnKey.{OwnKey}
+use Rattle.export_lists.specs.Entries.{Listed, is_same}
+use Rattle.export_lists.specs.Keys.{key_of}
+use Rattle.export_lists.specs.OwnKeys.{seen_own}
+use Rattle.export_lists.specs.Compiling.{most_names}
+use Rattle.export_lists.specs.CmiTexts.{is_good_entry}
+use Rattle.export_lists.specs.Drafts.{added}
+use Rattle.export_lists.proofs.Sets.{any_map, same_parts}
+
+-- a key is there exactly where its entry is
+pub own_is_there : (keys : List OwnKey) (entries : List Listed) (key : OwnKey) (entry : Listed) → map seen_own keys ≡ map key_of entries → seen_own key ≡ key_of entry
+    → list_any (λ other. same_parts (seen_own key) (seen_own other)) keys ≡ list_any (is_same entry) entries
+own_is_there keys entries key entry same e =
+    any_map seen_own (same_parts (seen_own key)) keys
+    ∙ ap (list_any (same_parts (seen_own key))) same
+    ∙ ap (λ p. list_any (same_parts p) (map key_of entries)) e
+    ∙ sym (any_map key_of (same_parts (key_of entry)) entries)
+
+none_there : (good room : Bool) (entries : List Listed) → (if good && (room && not true) then Some entries else None) ≡ None
+none_there true true entries = refl
+none_there true false entries = refl
+none_there false room entries = refl
+
+-- an entry that is there isn't taken
+pub refused_there : (entries seen : List Listed) (entry : Listed) (test : Bool) → entries ≡ seen → test ≡ list_any (is_same entry) entries → test ≡ true → added seen entry ≡ None
+refused_there entries seen entry test same is h =
+    ap (λ es. added es entry) (sym same)
+    ∙ ap (λ (b : Bool). if is_good_entry entry.name entry.owner && (nat_lt (length entries) most_names && not b) then Some (entries ++ entry ∷ []) else None) (sym is ∙ h)
+    ∙ none_there (is_good_entry entry.name entry.owner) (nat_lt (length entries) most_names) (entries ++ entry ∷ [])
+
+-- a good one that isn't there goes last, where there is room
+pub taken_last : (entries seen new : List Listed) (entry other : Listed) (test : Bool) → entries ≡ seen → is_good_entry entry.name entry.owner ≡ true → length entries < most_names
+    → test ≡ list_any (is_same entry) entries → test ≡ false → other ≡ entry → new ≡ entries ++ other ∷ [] → added seen entry ≡ Some new
+taken_last entries seen new entry other test same good room is h copied more =
+    let any : list_any (is_same entry) entries ≡ false = sym is ∙ h in
+    let few : nat_lt (length entries) most_names ≡ true = lt-ltb (length entries) most_names room in
+    ap (λ es. added es entry) (sym same)
+    ∙ (λ k. if good k && (few k && not (any k)) then Some (entries ++ entry ∷ []) else None)
+    ∙ ap Some (ap (λ e. entries ++ e ∷ []) (sym copied) ∙ sym more)

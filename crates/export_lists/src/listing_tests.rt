@@ -1,0 +1,332 @@
+//! The outcomes of whole projects, and the reports on them.
+
+ghost use Rattle.std.specs.Prelude.{◌≡◌, length, IfSome};
+ghost use Rattle.unit_registry.specs.Projects.{unit_count};
+
+use super::*;
+use mm_outside::{List, Text};
+use module_lexer::SourceReason;
+use module_units::DeclKind::Struct;
+use std::alloc::Global;
+use std::test::*;
+use unit_registry::Project;
+
+/// A project with a module in parts, a header unit, modules above it, a plain unit and a ring of two.
+const WORKED: &[u8] = b"modmap-project 1
+repo gcm.cache
+module m m.cc
+module m:p p.cc
+module m:q q.cc
+header ./h.h h.h
+module n n.cc
+module o o.cc
+plain mi.cc
+module r r.cc
+module s s.cc
+end
+";
+
+const WORKED_SOURCES: [&[u8]; 9] = [
+    b"export module m; export import :p; import :q; import \"./h.h\"; export P make(H);",
+    b"export module m:p; export struct P; struct Hidden;",
+    b"module m:q; struct Q;",
+    b"struct H;",
+    b"export module n; export import m; export using N = P;",
+    b"export module o; export import n; export N f(P*);",
+    b"module m; Q helper(Hidden);",
+    b"export module r; import s;",
+    b"export module s; import r; import m;",
+];
+
+const WORKED_REPORT: &[u8] = b"ok m.cc 2
+name function make m
+name struct P m
+ok p.cc 1
+name struct P m
+ok q.cc 0
+ok h.h 1
+name struct H ./h.h
+ok n.cc 3
+name alias N n
+name function make m
+name struct P m
+ok o.cc 4
+name function f o
+name alias N n
+name function make m
+name struct P m
+ok mi.cc 0
+failed r.cc import s
+failed s.cc import r
+";
+
+/// A project of three modules and a plain unit.
+const ABC: &[u8] = b"modmap-project 1
+repo gcm.cache
+module a a.cc
+module b b.cc
+module c c.cc
+plain e.cc
+end
+";
+
+/// The same, where the second module was built before.
+const ABC_BUILT: &[u8] = b"modmap-project 1
+repo gcm.cache
+module a a.cc
+built module b b.cc
+module c c.cc
+plain e.cc
+end
+";
+
+/// Sources of such a project, and the report on it.
+type Row = ([&'static [u8]; 4], &'static [u8]);
+
+/// The texts of these sources.
+fn texts(alloc: Global, sources: &[&[u8]]) -> Option<Vec<Text>> {
+    let mut texts = Vec::new(alloc);
+    for source in sources {
+        texts.push(Text::of(alloc, source).ok()?).ok()?;
+    }
+    Some(texts)
+}
+
+/// The listing of a project with these sources.
+fn listed(alloc: Global, project: &Project, sources: &[&[u8]], built: &[Cmi]) -> Option<Listing>
+    ensures { IfSome result (λ listing. length listing ≡ unit_count project.now) }
+{
+    let texts = texts(alloc, sources)?;
+    if texts.len() != project.unit_count() as usize {
+        return None;
+    }
+    if built.len() != built_count(project) as usize {
+        return None;
+    }
+    match list_project(alloc, project, &texts, built) {
+        Ok(listing) => Some(listing),
+        Err(_) => None,
+    }
+}
+
+/// Whether the report on a project is this text.
+fn reports(
+    alloc: Global,
+    project: &Project,
+    sources: &[&[u8]],
+    built: &[Cmi],
+    report: &[u8],
+) -> Option<bool> {
+    let listing = listed(alloc, project, sources, built)?;
+    let text = listing.write(alloc, project).ok()?;
+    Some(text.octets() == report)
+}
+
+/// Whether the report on a project of which no unit was built before is this text.
+fn reports_of(alloc: Global, project: &[u8], sources: &[&[u8]], report: &[u8]) -> Option<bool> {
+    if project.len() > 1000 {
+        return None;
+    }
+    let project = Project::read(alloc, project).ok()?;
+    reports(alloc, &project, sources, &[], report)
+}
+
+/// The interface of a module with one struct, which was built before.
+fn built_before(alloc: Global) -> Option<Vec<Cmi>> {
+    let mut exports = List::new(alloc);
+    let name = Text::of(alloc, b"T").ok()?;
+    let owner = Text::of(alloc, b"b").ok()?;
+    exports
+        .push(Listed {
+            kind: Struct,
+            name,
+            owner,
+        })
+        .ok()?;
+    let mut cmis = Vec::new(alloc);
+    cmis.push(Cmi {
+        unit: Text::of(alloc, b"b").ok()?,
+        interface: true,
+        exports,
+        view: List::new(alloc),
+    })
+    .ok()?;
+    Some(cmis)
+}
+
+/// Whether a unit above one that was built before sees what that exports.
+fn reports_over_built(alloc: Global, sources: &[&[u8]], report: &[u8]) -> Option<bool> {
+    let project = Project::read(alloc, ABC_BUILT).ok()?;
+    let built = built_before(alloc)?;
+    reports(alloc, &project, sources, &built, report)
+}
+
+/// Whether the outcome of a unit is a fault of its source on this line, for this reason.
+fn fails(
+    alloc: Global,
+    sources: &[&[u8]],
+    unit: u32,
+    line: u32,
+    reason: SourceReason,
+) -> Option<bool> {
+    let project = Project::read(alloc, ABC).ok()?;
+    if unit >= project.unit_count() {
+        return None;
+    }
+    let listing = listed(alloc, &project, sources, &[])?;
+    Some(match listing.outcome(unit) {
+        Outcome::Failed(
+            Verdict::Source {
+                line: told,
+                reason: why,
+            },
+        ) => *told == line && *why == reason,
+        _ => false,
+    })
+}
+
+#[test]
+fn the_report_on_the_worked_project(rt: HostRuntime) {
+    assert!(rt; reports_of(rt.alloc(), WORKED, &WORKED_SOURCES, WORKED_REPORT) == Some(true));
+}
+
+#[test]
+fn units_above_and_below(rt: HostRuntime) {
+    let table: [Row; 7] = [
+        (
+            [
+                b"export module a; export import b;",
+                b"export module b; export import c;",
+                b"export module c; export struct S;",
+                b"import a; S x;",
+            ],
+            b"ok a.cc 1\nname struct S c\nok b.cc 1\nname struct S c\nok c.cc 1\nname struct S c\nok e.cc 0\n",
+        ),
+        (
+            [
+                b"export module a; import a;",
+                b"export module b;",
+                b"export module c;",
+                b"import b; import a; import z;",
+            ],
+            b"failed a.cc import a\nok b.cc 0\nok c.cc 0\nfailed e.cc import a\n",
+        ),
+        (
+            [
+                b"export module a; import b;",
+                b"export module b; import a;",
+                b"export module c;",
+                b"",
+            ],
+            b"failed a.cc import b\nfailed b.cc import a\nok c.cc 0\nok e.cc 0\n",
+        ),
+        (
+            [
+                b"export module a; import b;",
+                b"export module b; import c;",
+                b"export module c; import a;",
+                b"import c;",
+            ],
+            b"failed a.cc import b\nfailed b.cc import c\nfailed c.cc import a\nfailed e.cc import c\n",
+        ),
+        (
+            [
+                b"export module a; import z; import y;",
+                b"export module b; import :p;",
+                b"export module c; import b;",
+                b"int x; T y;",
+            ],
+            b"failed a.cc import z\nfailed b.cc import 'b:p'\nfailed c.cc import b\nfailed e.cc line 1 'unknown type'\n",
+        ),
+        (
+            [
+                b"export module a;",
+                b"\nexport module a;",
+                b"export module c; struct S;",
+                b"int",
+            ],
+            b"ok a.cc 0\nfailed b.cc line 2 'unit differs from project'\nok c.cc 0\nfailed e.cc line 1 syntax\n",
+        ),
+        (
+            [
+                b"export module a; export struct A; export A f(A);",
+                b"export module b; import a; export A g();",
+                b"export module c; import b;\nexport A h();",
+                b"import a;\nimport b;\n\nB x;",
+            ],
+            b"ok a.cc 2\nname struct A a\nname function f a\nok b.cc 1\nname function g b\nfailed c.cc line 2 'unknown type'\nfailed e.cc line 4 'unknown type'\n",
+        ),
+    ];
+    for (sources, report) in table {
+        assert!(rt;
+            reports_of(rt.alloc(), ABC, &sources, report) == Some(true),
+            "{report:?}"
+        );
+    }
+}
+
+/// A project with a module in two parts and a module above it.
+const PARTS: &[u8] = b"modmap-project 1
+repo gcm.cache
+module n n.cc
+module m m.cc
+module m:q q.cc
+module m:p p.cc
+end
+";
+
+#[test]
+fn units_of_a_module_in_parts(rt: HostRuntime) {
+    let table: [Row; 2] = [
+        (
+            [
+                b"export module n; import m;",
+                b"export module m;\nexport import :q;",
+                b"module m:q;",
+                b"export module m:p; import m;",
+            ],
+            b"failed n.cc import m\nfailed m.cc line 2 'exported implementation unit'\nok q.cc 0\nfailed p.cc import m\n",
+        ),
+        (
+            [
+                b"export module n; import m; Q f();",
+                b"export module m; import :p; Q f(I); export P g();",
+                b"module m:q; struct Q; struct R;",
+                b"export module m:p; import :q; export struct P; struct I; R f();",
+            ],
+            b"failed n.cc line 1 'unknown type'\nok m.cc 1\nname function g m\nok q.cc 0\nok p.cc 1\nname struct P m\n",
+        ),
+    ];
+    for (sources, report) in table {
+        assert!(rt;
+            reports_of(rt.alloc(), PARTS, &sources, report) == Some(true),
+            "{report:?}"
+        );
+    }
+}
+
+#[test]
+fn a_unit_that_was_built_before(rt: HostRuntime) {
+    let sources: [&[u8]; 4] = [
+        b"export module a; export import b; T f();",
+        b"@",
+        b"export module c; import b;",
+        b"import a; T x;",
+    ];
+    let report =
+        b"ok a.cc 1\nname struct T b\nbuilt b.cc 1\nname struct T b\nok c.cc 0\nok e.cc 0\n";
+    assert!(rt; reports_over_built(rt.alloc(), &sources, report) == Some(true));
+}
+
+#[test]
+fn the_outcome_of_a_unit(rt: HostRuntime) {
+    let sources: [&[u8]; 4] = [
+        b"export module a;\n\nT f();",
+        b"export module a;",
+        b"export module c;",
+        b"",
+    ];
+    assert!(rt; fails(rt.alloc(), &sources, 0, 3, SourceReason::UnknownType) == Some(true));
+    assert!(rt; fails(rt.alloc(), &sources, 1, 1, SourceReason::UnitDiffers) == Some(true));
+    assert!(rt; fails(rt.alloc(), &sources, 2, 1, SourceReason::UnitDiffers) == Some(false));
+}
