@@ -22,12 +22,14 @@ use Rattle.connection_core.specs.declared.conn_end.ConnEnd.TheVariants.{Closed, 
 use Rattle.connection_core.specs.Asking.{Block, acts}
 use Rattle.connection_core.specs.Alone.{solo}
 use Rattle.connection_core.specs.Ends.{Filled, whole_course, status_of as conn_status}
-use Rattle.modmap.specs.Commands.{Pipe, AsksPipe, usual, counted, AsksFor, pipe}
-use Rattle.modmap.specs.Endings.{Ended, BadWords, OutOfMemory, CannotRead, FileTooLong, Refused, Served, status_of}
+use Rattle.modmap.specs.Commands.{Pipe, AsksPipe, usual, counted, AsksFor}
+use Rattle.modmap.specs.Endings.{Ended, BadWords, OutOfMemory, CannotRead, FileTooLong, Refused, Served, Reported, Cut, status_of}
 use Rattle.modmap.specs.ProjectFiles.{DeclaresProject, FindsProject, IsReadAs, most_project_octets}
 use Rattle.modmap.specs.Running.{Outside, Pipes, IsWhole, IsAllThere, LacksFile}
 use Rattle.modmap.specs.Serving.{ServesAlone}
 use Rattle.modmap.proofs.Answering.{acts_behind}
+use Rattle.modmap.proofs.Forms.{same_verb}
+use Rattle.modmap.proofs.Runnings.{asked_of_pipe}
 use Rattle.modmap.proofs.Soloing.{gone_course}
 
 -- ---- one command
@@ -49,9 +51,8 @@ same_task words a b m n (counted project word count are spelled is) (counted oth
 
 -- the words ask for one thing at most
 one_task : (words : List (List ℕ)) (a b : List ℕ) (m n : ℕ) → AsksFor words (Pipe a m) → AsksFor words (Pipe b n) → (a ≡ b) × (m ≡ n)
-one_task words a b m n (pipe rest are asked) (pipe rest2 are2 asked2) =
-    let rests : rest2 ≡ rest = cc in
-    same_task rest a b m n asked (subst (λ some. AsksPipe some (Pipe b n)) rests asked2)
+one_task words a b m n asks also =
+    same_task asks.rest a b m n (asked_of_pipe words a m asks) (subst (λ some. AsksPipe some (Pipe b n)) (sym (same_verb asks.first also.first asks.rest also.rest (sym asks.words_are ∙ also.words_are)).1) (asked_of_pipe words b n also))
 
 -- ---- one project
 
@@ -129,7 +130,7 @@ told_closed project entries how (Some before) (Some now) known read write told =
 -- ---- one ending
 
 -- the project that was read is the one that the file declares
-told_project : (failed : Type 0) (name : List ℕ) (project other : ProjectView) (before now : Option Lookup) → IsSomeAnd before (λ content. DeclaresProject (content name) project) → Told (FindsProject failed name (Ok other)) before now → other ≡ project
+pub told_project : (failed : Type 0) (name : List ℕ) (project other : ProjectView) (before now : Option Lookup) → IsSomeAnd before (λ content. DeclaresProject (content name) project) → Told (FindsProject failed name (Ok other)) before now → other ≡ project
 told_project failed name project other None now known told = absurd known
 told_project failed name project other (Some before) None known told = absurd told.so
 told_project failed name project other (Some before) (Some now) known told = same_project (before name) other project told.so.is_read_as known
@@ -155,8 +156,10 @@ not_refused failed name project (Refused named line reason) content none memory 
     let texts : known.text ≡ read.text = same_some known.text read.text (sym known.held_is ∙ read.held_is) in
     never_both read.text project line read.cause (declared_reaches read.text project (subst (λ t. Declares t project) texts known.declares)) read.fault
 not_refused failed name project (Served how) content none memory known read = read
+not_refused failed name project (Reported report) content none memory known read = read
+not_refused failed name project (Cut report) content none memory known read = read
 
-told_refused : (failed : Type 0) (name : List ℕ) (project : ProjectView) (ended : Ended) (before now : Option Lookup) → (failed → ⊥) → ended ≢ OutOfMemory → IsSomeAnd before (λ content. DeclaresProject (content name) project) → Told (FindsProject failed name (Err ended)) before now → ⊥
+pub told_refused : (failed : Type 0) (name : List ℕ) (project : ProjectView) (ended : Ended) (before now : Option Lookup) → (failed → ⊥) → ended ≢ OutOfMemory → IsSomeAnd before (λ content. DeclaresProject (content name) project) → Told (FindsProject failed name (Err ended)) before now → ⊥
 told_refused failed name project ended None now none memory known told = absurd known
 told_refused failed name project ended (Some before) None none memory known told = absurd told.so
 told_refused failed name project ended (Some before) (Some now) none memory known told = not_refused failed name project ended (before name) none memory known told.so.is_read_as
@@ -174,6 +177,8 @@ module _ {L : Type 0} (outside : Outside L) (words : List (String Global)) (name
       let same : project ≡ h.project = sym (told_project (Rose outside.file_reads_before outside.file_reads_now) name project h.project outside.files_before outside.files_now file h.reads) in
       let closed : how ≡ Closed = told_closed h.project entries how (outside.octets outside.link_before) (outside.octets outside.link_now) (subst (λ some. IsSomeAnd (outside.octets outside.link_before) (IsWhole some entries)) same input) (λ e. no_read (h.causes.read e)) (λ e. no_write (h.causes.write e)) h.serves in
       inl (ap conn_status closed)
+  all_served project (Reported report) file input no_file no_read no_write h = absurd h
+  all_served project (Cut report) file input no_file no_read no_write h = absurd h
 
   -- a run of which all is there ends with 0, or wants memory
   pub completes : (ended : Ended) (status : ℕ) → status ≡ status_of ended → Pipes outside ended name entries → IsAllThere words outside.files_before (outside.octets outside.link_before)
@@ -209,8 +214,10 @@ module _ {L : Type 0} (outside : Outside L) (words : List (String Global)) (name
   fault_of_read (CannotRead named) status is h four = by (lacks named outside.files_before outside.files_now h.reads)
     where
       by : IfSome outside.files_before (λ content. content name ≡ None) ⊎ Rose outside.file_reads_before outside.file_reads_now → LacksFile words outside.files_before ⊎ (Rose outside.file_reads_before outside.file_reads_now ⊎ Rose outside.link_reads_before outside.link_reads_now)
-      by (inl absent) = inl (record { name = name; entries = entries; asks = asks; absent = absent })
+      by (inl absent) = inl (record { task = Pipe name entries; asks = asks; name = name; is_read = refl; absent = absent })
       by (inr rose) = inr (inl rose)
   fault_of_read (FileTooLong named) status is h four = absurd (omega (arith, is, four))
   fault_of_read (Refused named line reason) status is h four = absurd (omega (arith, is, four))
   fault_of_read (Served how) status is h four = inr (inr (h.causes.read (conn_four how (sym is ∙ four))))
+  fault_of_read (Reported report) status is h four = absurd h
+  fault_of_read (Cut report) status is h four = absurd h

@@ -9,3 +9,12 @@ pub mod PrintLemmas
 pub mod Runnings
 pub mod WordLemmas
 pub mod Complete
+pub mod Reporting
+pub mod Tasks
+pub mod Replaying
+pub mod Limits
+pub mod Puttings
+pub mod Playing
+pub mod Entering
+pub mod Played
+pub mod Replayed

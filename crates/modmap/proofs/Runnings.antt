@@ -4,8 +4,10 @@ use Rattle.mm_outside.specs.Causes.{Rose}
 use Rattle.mm_outside.specs.Told.{Told}
 use Rattle.connection_core.specs.declared.conn_end.ConnEnd.{ConnEnd}
 use Rattle.connection_core.specs.declared.conn_end.ConnEnd.TheVariants.{Closed, Truncated, ReadFault, WriteFault, TooLong, BatchTooLong, HistoryFull}
-use Rattle.modmap.specs.Commands.{Pipe, AsksPipe, usual, counted, AsksFor, pipe}
-use Rattle.modmap.specs.Endings.{Ended, BadWords, OutOfMemory, CannotRead, FileTooLong, Refused, Served, status_of}
+use Rattle.modmap.specs.declared.verb.Verb.{Verb}
+use Rattle.modmap.specs.declared.verb.Verb.TheVariants as verb
+use Rattle.modmap.specs.Commands.{Pipe, Check, Replay, AsksPipe, usual, counted, AsksAs, AsksFor}
+use Rattle.modmap.specs.Endings.{Ended, BadWords, OutOfMemory, CannotRead, FileTooLong, Refused, Served, Reported, Cut, Prints, Speaks, HasSinkCause, message_of, status_of}
 use Rattle.std.proofs.Common.{Err}
 use Rattle.mm_outside.proofs.ToldLemmas.{Told-map}
 use Rattle.modmap.specs.ProjectFiles.{FindsProject, IsOfFile}
@@ -18,9 +20,24 @@ bounds_behind : (words : List (List ℕ)) (name : List ℕ) (entries : ℕ) → 
 bounds_behind words name entries (usual project are is) = let n = same_entries name project entries 65536 is in (omega (arith, n), omega (arith, n))
 bounds_behind words name entries (counted project word count are spelled is) = let n = same_entries name project entries count is in (omega (arith, n, spelled.at_least), omega (arith, n, spelled.at_most))
 
+no_check : (name project trace : List ℕ) (entries : ℕ) → Pipe name entries ≡ Check project trace → ⊥
+no_check name project trace entries e = cc
+
+no_replay : (name project trace : List ℕ) (entries : ℕ) → Pipe name entries ≡ Replay project trace → ⊥
+no_replay name project trace entries e = cc
+
+-- what words that ask for `pipe` have behind the verb
+pub asked_of_pipe : (words : List (List ℕ)) (name : List ℕ) (entries : ℕ) (asks : AsksFor words (Pipe name entries)) → AsksPipe asks.rest (Pipe name entries)
+asked_of_pipe words name entries asks = by asks.first asks.asked
+  where
+    by : (first : Verb) → AsksAs first asks.rest (Pipe name entries) → AsksPipe asks.rest (Pipe name entries)
+    by verb.Pipe asked = asked
+    by verb.Check asked = absurd (no_check name asked.project asked.trace entries asked.task_is)
+    by verb.Replay asked = absurd (no_replay name asked.project asked.trace entries asked.task_is)
+
 -- the entries that are asked for lie between the bounds
 pub asked_bounds : (words : List (List ℕ)) (name : List ℕ) (entries : ℕ) → AsksFor words (Pipe name entries) → (3 ≤ entries) × (entries ≤ 1048576)
-asked_bounds words name entries (pipe rest are asked) = bounds_behind rest name entries asked
+asked_bounds words name entries asks = bounds_behind asks.rest name entries (asked_of_pipe words name entries asks)
 
 module _ {L : Type 0} (outside : Outside L) (name : List ℕ) (entries : ℕ) where
   conn_two : (how : ConnEnd) → status_of (Served how) ≢ 2
@@ -40,6 +57,8 @@ module _ {L : Type 0} (outside : Outside L) (name : List ℕ) (entries : ℕ) wh
   never_two (FileTooLong named) h e = omega (arith, e)
   never_two (Refused named line reason) h e = omega (arith, e)
   never_two (Served how) h e = conn_two how e
+  never_two (Reported report) h e = h
+  never_two (Cut report) h e = h
 
   -- the link is as it was after want of memory, and where the file is refused
   aside : (ended : Ended) → Pipes outside ended name entries → ((how : ConnEnd) → ended ≡ Served how → ⊥) → outside.link_now ≡ outside.link_before
@@ -49,6 +68,8 @@ module _ {L : Type 0} (outside : Outside L) (name : List ℕ) (entries : ℕ) wh
   aside (FileTooLong named) h none = h.link
   aside (Refused named line reason) h none = h.link
   aside (Served how) h none = absurd (none how refl)
+  aside (Reported report) h none = absurd h
+  aside (Cut report) h none = absurd h
 
   conn_three : (how : ConnEnd) → (status_of (Served how) ≡ 3) ⊎ (status_of (Served how) ≡ 6) → ⊥
   conn_three Closed (inl e) = omega (arith, e)
@@ -87,6 +108,29 @@ module _ {L : Type 0} (outside : Outside L) (name : List ℕ) (entries : ℕ) wh
   fault_of_write (FileTooLong named) status is h five = absurd (omega (arith, is, five))
   fault_of_write (Refused named line reason) status is h five = absurd (omega (arith, is, five))
   fault_of_write (Served how) status is h five = h.causes.write (conn_five how (sym is ∙ five))
+  fault_of_write (Reported report) status is h five = absurd h
+  fault_of_write (Cut report) status is h five = absurd h
+
+  -- what is printed is the message
+  pub speaks : (ended : Ended) (before now : ℕ) (a b : Option (List ℕ)) → Pipes outside ended name entries → Told (Prints (message_of ended) before now) a b → Told (Speaks ended before now) a b
+  speaks BadWords before now a b h told = told
+  speaks OutOfMemory before now a b h told = told
+  speaks (CannotRead named) before now a b h told = told
+  speaks (FileTooLong named) before now a b h told = told
+  speaks (Refused named line reason) before now a b h told = told
+  speaks (Served how) before now a b h told = told
+  speaks (Reported report) before now a b h told = absurd h
+  speaks (Cut report) before now a b h told = absurd h
+
+  pub no_sink_cause : (ended : Ended) (before now : ℕ) → Pipes outside ended name entries → HasSinkCause ended before now
+  no_sink_cause BadWords before now h = tt
+  no_sink_cause OutOfMemory before now h = tt
+  no_sink_cause (CannotRead named) before now h = tt
+  no_sink_cause (FileTooLong named) before now h = tt
+  no_sink_cause (Refused named line reason) before now h = tt
+  no_sink_cause (Served how) before now h = tt
+  no_sink_cause (Reported report) before now h = absurd h
+  no_sink_cause (Cut report) before now h = absurd h
 
 -- a project file that brings an ending
 pub refused_so : {L : Type 0} (outside : Outside L) (name : List ℕ) (entries : ℕ) (ended : Ended) → IsOfFile ended → Told (FindsProject (Rose outside.file_reads_before outside.file_reads_now) name (Err ended)) outside.files_before outside.files_now → outside.link_now ≡ outside.link_before → Pipes outside ended name entries
@@ -96,6 +140,8 @@ refused_so outside name entries (CannotRead named) kind reads link = record { re
 refused_so outside name entries (FileTooLong named) kind reads link = record { reads = reads; link = link }
 refused_so outside name entries (Refused named line reason) kind reads link = record { reads = reads; link = link }
 refused_so outside name entries (Served how) kind reads link = absurd kind
+refused_so outside name entries (Reported report) kind reads link = absurd kind
+refused_so outside name entries (Cut report) kind reads link = absurd kind
 
 pub none_left : {A : Type 0} (r : Option A) → ((x : A) → r ≡ Some x → ⊥) → r ≡ None
 none_left None h = refl

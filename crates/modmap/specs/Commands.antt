@@ -3,14 +3,21 @@ use Rattle.std.specs.Prelude.{◌≡◌, ℕ, ◌≤◌, List, [], ◌∷◌, ma
 use Rattle.std.specs.declared.alloc.Global.{Global}
 use Rattle.modmap.specs.declared.command.Command.{Command}
 use Rattle.modmap.specs.declared.command.Command.TheVariants as command
+use Rattle.modmap.specs.declared.verb.Verb.{Verb}
+use Rattle.modmap.specs.declared.verb.Verb.TheVariants as verb
 
--- what is to be done: serve one connection over this project file, in a history of at most so many entries
+-- what is to be done: serve one connection over this project file, in a history of at most so many entries; check a
+-- trace against a project; or replay one
 pub data Task : Type 0 where
   Pipe : (project : List ℕ) → (entries : ℕ) → Task
+  Check : (project trace : List ℕ) → Task
+  Replay : (project trace : List ℕ) → Task
 
 -- what a command asks for, its texts as lists of octets
 abbrev pub task_of : Command → Task
 task_of (command.Pipe project entries) = Pipe project.now entries
+task_of (command.Check project trace) = Check project.now trace.now
+task_of (command.Replay project trace) = Replay project.now trace.now
 
 -- the word spells a number of entries that a history may have at most
 pub record IsEntries (word : List ℕ) (entries : ℕ) : Type 0 where
@@ -23,9 +30,31 @@ pub data AsksPipe (words : List (List ℕ)) (task : Task) : Type 0 where
   usual : (project : List ℕ) → words ≡ project ∷ [] → task ≡ Pipe project 65536 → AsksPipe words task
   counted : (project word : List ℕ) (entries : ℕ) → words ≡ project ∷ word ∷ [] → IsEntries word entries → task ≡ Pipe project entries → AsksPipe words task
 
--- the words ask for this
-pub data AsksFor (words : List (List ℕ)) (task : Task) : Type 0 where
-  pipe : (rest : List (List ℕ)) → words ≡ codes "pipe" ∷ rest → AsksPipe rest task → AsksFor words task
+-- the words are PROJECT TRACE, of this task
+pub record AsksOfTrace (asks : List ℕ → List ℕ → Task) (words : List (List ℕ)) (task : Task) : Type 0 where
+  pub project : List ℕ
+  pub trace : List ℕ
+  pub words_are : words ≡ project ∷ trace ∷ []
+  pub task_is : task ≡ asks project trace
+
+-- the word of a verb
+abbrev pub verb_text : Verb → List ℕ
+verb_text verb.Pipe = codes "pipe"
+verb_text verb.Check = codes "check"
+verb_text verb.Replay = codes "replay"
+
+-- what the words behind a verb ask for
+abbrev pub AsksAs : Verb → List (List ℕ) → Task → Type 0
+AsksAs verb.Pipe words task = AsksPipe words task
+AsksAs verb.Check words task = AsksOfTrace Check words task
+AsksAs verb.Replay words task = AsksOfTrace Replay words task
+
+-- the words ask for this: a verb, and what it needs behind it
+pub record AsksFor (words : List (List ℕ)) (task : Task) : Type 0 where
+  pub first : Verb
+  pub rest : List (List ℕ)
+  pub words_are : words ≡ verb_text first ∷ rest
+  pub asked : AsksAs first rest task
 
 -- the first word is `pipe`
 abbrev pub BeginsWithPipe : List (String Global) → Type 0

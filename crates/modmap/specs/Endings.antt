@@ -1,6 +1,7 @@
 -- The statuses and messages that the program ends with.
-use Rattle.std.specs.Prelude.{◌≡◌, ℕ, ◌+◌, List, [], ◌++◌, take, length, codes, decimal, ◌⊎◌}
+use Rattle.std.specs.Prelude.{◌≡◌, ℕ, ◌+◌, ◌<◌, Bool, if◌then◌else◌, List, [], ◌++◌, take, length, Option, codes, decimal, ◌⊎◌}
 use Rattle.mm_outside.specs.Causes.{Rose}
+use Rattle.mm_outside.specs.Told.{Told}
 use Rattle.cody_words.specs.Canonical.{quote, word_room}
 use Rattle.connection_core.specs.declared.conn_end.ConnEnd.{ConnEnd}
 use Rattle.connection_core.specs.declared.conn_end.ConnEnd.TheVariants.{Closed, Truncated, ReadFault, WriteFault, TooLong, BatchTooLong, HistoryFull}
@@ -8,7 +9,12 @@ use Rattle.connection_core.specs.Ends.{status_of as conn_status}
 use Rattle.modmap.specs.declared.ending.Ending.{Ending}
 use Rattle.modmap.specs.declared.ending.Ending.TheVariants as ending
 
--- how a run of the program ends
+-- a report: its text, and whether all that it tells of is well
+pub record Report : Type 0 where
+  pub text : List ℕ
+  pub good : Bool
+
+-- how a run of the program ends: by a message, by a report that was printed whole, or by one that was cut short
 pub data Ended : Type 0 where
   BadWords : Ended
   OutOfMemory : Ended
@@ -16,6 +22,8 @@ pub data Ended : Type 0 where
   FileTooLong : (name : List ℕ) → Ended
   Refused : (name : List ℕ) → (line : ℕ) → (reason : List ℕ) → Ended
   Served : (how : ConnEnd) → Ended
+  Reported : (report : Report) → Ended
+  Cut : (report : Report) → Ended
 
 -- what an ending tells, its texts as lists of octets
 abbrev pub told_by : Ending → Ended
@@ -34,6 +42,8 @@ status_of (CannotRead name) = 4
 status_of (FileTooLong name) = 6
 status_of (Refused name line reason) = 6
 status_of (Served how) = conn_status how
+status_of (Reported report) = if report.good then 0 else 1
+status_of (Cut report) = 5
 
 -- what is said of an input that ended while so many lines were held
 abbrev pub truncated_text : ℕ → List ℕ
@@ -61,7 +71,7 @@ too_long_text name = codes "modmap: " ++ quote name ++ codes ": file too long\n"
 abbrev pub refused_text : List ℕ → ℕ → List ℕ → List ℕ
 refused_text name line reason = codes "modmap: " ++ quote name ++ codes ":" ++ decimal line ++ codes ": " ++ reason ++ codes "\n"
 
--- the message of an ending, a line; there is none where all was done
+-- the message of an ending, a line; there is none where all was done, nor behind a report
 abbrev pub message_of : Ended → List ℕ
 message_of BadWords = codes "modmap: bad words\n"
 message_of OutOfMemory = codes "modmap: out of memory\n"
@@ -69,6 +79,8 @@ message_of (CannotRead name) = cannot_read_text name
 message_of (FileTooLong name) = too_long_text name
 message_of (Refused name line reason) = refused_text name line reason
 message_of (Served how) = conn_message how
+message_of (Reported report) = []
+message_of (Cut report) = []
 
 -- the octets beside a name and a reason that a message has at most
 abbrev pub frame_room : ℕ
@@ -82,9 +94,44 @@ message_room (CannotRead name) = word_room name + frame_room
 message_room (FileTooLong name) = word_room name + frame_room
 message_room (Refused name line reason) = word_room name + length reason + frame_room
 message_room (Served how) = frame_room
+message_room (Reported report) = frame_room
+message_room (Cut report) = frame_room
 
 -- a text was appended, or a part of it where the count of faults rose
 pub record Prints (text : List ℕ) (faults_before faults_now : ℕ) (old new : List ℕ) : Type 0 where
   pub count : ℕ
   pub appended : new ≡ old ++ take count text
   pub whole : (take count text ≡ text) ⊎ Rose faults_before faults_now
+
+-- a proper part of the text was appended
+pub record IsCut (text : List ℕ) (old new : List ℕ) : Type 0 where
+  pub count : ℕ
+  pub proper : count < length text
+  pub appended : new ≡ old ++ take count text
+
+-- What is printed at an ending: the whole report, or a proper part of one; else the message, or a part of it where a
+-- write failed.
+abbrev pub Speaks : Ended → ℕ → ℕ → List ℕ → List ℕ → Type 0
+Speaks (Reported report) faults_before faults_now old new = new ≡ old ++ report.text
+Speaks (Cut report) faults_before faults_now old new = IsCut report.text old new
+Speaks ended faults_before faults_now old new = Prints (message_of ended) faults_before faults_now old new
+
+-- a report is cut short only where a write failed
+abbrev pub HasSinkCause : Ended → ℕ → ℕ → Type 0
+HasSinkCause (Cut report) faults_before faults_now = Rose faults_before faults_now
+HasSinkCause ended faults_before faults_now = Unit {0}
+
+-- The message of the ending was printed, unless memory ran out before it could be, which ends the run in another way.
+pub record Tells (ended : Ended) (faults_before faults_now : ℕ) (out_before out_now : Option (List ℕ)) (status : ℕ) : Type 0 where
+  pub ending : Ended
+  pub ending_is : (ending ≡ ended) ⊎ (ending ≡ OutOfMemory)
+  pub status_is : status ≡ status_of ending
+  pub message : Told (Prints (message_of ending) faults_before faults_now) out_before out_now
+
+-- The report was printed, whole or up to a write that failed.
+pub record Issues (report : Report) (faults_before faults_now : ℕ) (out_before out_now : Option (List ℕ)) (status : ℕ) : Type 0 where
+  pub ending : Ended
+  pub ending_is : (ending ≡ Reported report) ⊎ (ending ≡ Cut report)
+  pub status_is : status ≡ status_of ending
+  pub spoken : Told (Speaks ending faults_before faults_now) out_before out_now
+  pub cause : HasSinkCause ending faults_before faults_now

@@ -2,6 +2,11 @@ pub mod Adapters
 pub mod Commands
 pub mod Endings
 pub mod ProjectFiles
+pub mod TraceFiles
+pub mod Reports
 pub mod Serving
 pub mod Ladder
 pub mod Running
+pub mod Replays
+pub mod Paging
+pub mod Plays

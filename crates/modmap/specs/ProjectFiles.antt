@@ -6,7 +6,7 @@ use Rattle.unit_registry.specs.Readings.{Declares, IsFault}
 use Rattle.unit_registry.specs.Reasons.{reason_text}
 use Rattle.mm_outside.specs.Files.{Lookup}
 use Rattle.modmap.specs.declared.ending.Ending.{Ending}
-use Rattle.modmap.specs.Endings.{Ended, told_by, BadWords, OutOfMemory, CannotRead, FileTooLong, Refused, Served}
+use Rattle.modmap.specs.Endings.{Ended, told_by, BadWords, OutOfMemory, CannotRead, FileTooLong, Refused, Served, Reported, Cut}
 
 -- the most octets that a project file may have
 abbrev pub most_project_octets : ℕ
@@ -24,12 +24,12 @@ pub record IsUnreadable (failed : Type 0) (name : List ℕ) (held : Option (List
   pub named_is : named ≡ name
   pub cause : (held ≡ None) ⊎ failed
 
--- the file holds more octets than a project file may have
-pub record IsTooLong (name : List ℕ) (held : Option (List ℕ)) (named : List ℕ) : Type 0 where
+-- the file holds more octets than a file of its kind may have
+pub record IsTooLong (most : ℕ) (name : List ℕ) (held : Option (List ℕ)) (named : List ℕ) : Type 0 where
   pub named_is : named ≡ name
   pub text : List ℕ
   pub held_is : held ≡ Some text
-  pub above : most_project_octets < length text
+  pub above : most < length text
 
 -- the file holds a text within the limit whose first fault is on this line, for this reason
 pub record IsRefused (name : List ℕ) (held : Option (List ℕ)) (named : List ℕ) (line : ℕ) (reason : List ℕ) : Type 0 where
@@ -48,13 +48,15 @@ IsReadAs failed name (Ok project) held = DeclaresProject held project
 IsReadAs failed name (Err BadWords) held = ⊥
 IsReadAs failed name (Err OutOfMemory) held = Unit {0}
 IsReadAs failed name (Err (CannotRead named)) held = IsUnreadable failed name held named
-IsReadAs failed name (Err (FileTooLong named)) held = IsTooLong name held named
+IsReadAs failed name (Err (FileTooLong named)) held = IsTooLong most_project_octets name held named
 IsReadAs failed name (Err (Refused named line reason)) held = IsRefused name held named line reason
 IsReadAs failed name (Err (Served how)) held = ⊥
+IsReadAs failed name (Err (Reported report)) held = ⊥
+IsReadAs failed name (Err (Cut report)) held = ⊥
 
 -- what was read, with what an ending tells in place of it
-abbrev pub read_as : Result ProjectView Ending → Result ProjectView Ended
-read_as (Ok project) = Ok project
+abbrev pub read_as : {A : Type 0} → Result A Ending → Result A Ended
+read_as (Ok read) = Ok read
 read_as (Err ending) = Err (told_by ending)
 
 -- the file of this name was read as this, and no file changed
@@ -62,7 +64,7 @@ pub record FindsProject (failed : Type 0) (name : List ℕ) (result : Result Pro
   pub is_read_as : IsReadAs failed name result (old name)
   pub same : new ≡ old
 
--- an ending that a project file brings
+-- an ending that a file which is read brings
 abbrev pub IsOfFile : Ended → Type 0
 IsOfFile BadWords = ⊥
 IsOfFile OutOfMemory = Unit {0}
@@ -70,3 +72,5 @@ IsOfFile (CannotRead named) = Unit {0}
 IsOfFile (FileTooLong named) = Unit {0}
 IsOfFile (Refused named line reason) = Unit {0}
 IsOfFile (Served how) = ⊥
+IsOfFile (Reported report) = ⊥
+IsOfFile (Cut report) = ⊥

@@ -1,5 +1,5 @@
 -- What a run of the program comes to.
-use Rattle.std.specs.Prelude.{◌≡◌, ℕ, ◌+◌, ◌≤◌, List, map, length, Option, None, IfSome, IsSomeAnd, String, string_bytes, Result, Ok, Err}
+use Rattle.std.specs.Prelude.{◌≡◌, ℕ, ◌+◌, ◌≤◌, ◌⊎◌, List, map, length, Option, None, IfSome, IsSomeAnd, String, string_bytes, Result, Ok, Err}
 use Rattle.std.specs.declared.alloc.Global.{Global}
 use Rattle.mm_outside.specs.Causes.{Rose}
 use Rattle.mm_outside.specs.Files.{Lookup}
@@ -9,10 +9,14 @@ use Rattle.cody_batches.specs.Blocks.{blocks, held, PassesLimits}
 use Rattle.unit_registry.specs.Projects.{ProjectView}
 use Rattle.connection_core.specs.Asking.{acts}
 use Rattle.connection_core.specs.Ends.{HasCauses}
-use Rattle.modmap.specs.Commands.{Task, Pipe, AsksFor}
-use Rattle.modmap.specs.Endings.{Ended, BadWords, OutOfMemory, CannotRead, FileTooLong, Refused, Served, status_of, message_of, Prints}
+use Rattle.trace_text.specs.declared.trace.Trace.{Trace}
+use Rattle.modmap.specs.Commands.{Task, Pipe, Check, Replay, AsksFor}
+use Rattle.modmap.specs.Endings.{Ended, BadWords, OutOfMemory, CannotRead, FileTooLong, Refused, Served, Reported, Cut, Report, status_of, message_of, Prints, Speaks, HasSinkCause}
 use Rattle.modmap.specs.ProjectFiles.{DeclaresProject, FindsProject}
+use Rattle.modmap.specs.Reports.{ReportsSo, check_report}
+use Rattle.modmap.specs.Replays.{replay_report}
 use Rattle.modmap.specs.Serving.{ServesAlone}
+use Rattle.modmap.specs.TraceFiles.{HoldsTrace}
 
 -- the words ask for nothing that the program does
 abbrev pub AsksNothing : List (String Global) → Type 0
@@ -62,18 +66,40 @@ module _ {L : Type 0} (outside : Outside L) where
   Pipes (FileTooLong named) name entries = Refuses name (FileTooLong named)
   Pipes (Refused named line reason) name entries = Refuses name (Refused named line reason)
   Pipes (Served how) name entries = ServesProject name entries how
+  Pipes (Reported report) name entries = ⊥
+  Pipes (Cut report) name entries = ⊥
+
+  -- what a report over these two files comes to, by its ending; the link is as it was
+  pub record ReportsAside (reports : ProjectView → Trace → Report) (ended : Ended) (project_name trace_name : List ℕ) : Type 0 where
+    pub reports_so : ReportsSo (Rose outside.file_reads_before outside.file_reads_now) outside.files_before outside.files_now reports ended project_name trace_name
+    pub link : outside.link_now ≡ outside.link_before
+
+  -- a task was done to this ending
+  abbrev pub DoesTask : Task → Ended → Type 0
+  DoesTask (Pipe project entries) ended = Pipes ended project entries
+  DoesTask (Check project trace) ended = ReportsAside check_report ended project trace
+  DoesTask (Replay project trace) ended = ReportsAside replay_report ended project trace
 
   -- what the words ask for, done to this ending
   pub data Does (words : List (String Global)) (ended : Ended) : Type 0 where
     nothing : AsksNothing words → ended ≡ BadWords → StaysAside → Does words ended
-    pipes : (name : List ℕ) (entries : ℕ) → AsksFor (map string_bytes words) (Pipe name entries) → Pipes ended name entries → Does words ended
+    asked : (task : Task) → AsksFor (map string_bytes words) task → DoesTask task ended → Does words ended
 
-  -- A run ended with this status: what the words ask for was done to an ending, whose message was printed.
+  -- A run ended with this status: what the words ask for was done to an ending, and what belongs to it was printed.
   pub record Runs (words : List (String Global)) (faults_before faults_now : ℕ) (out_before out_now : Option (List ℕ)) (status : ℕ) : Type 0 where
     pub ending : Ended
     pub status_is : status ≡ status_of ending
-    pub message : Told (Prints (message_of ending) faults_before faults_now) out_before out_now
+    pub spoken : Told (Speaks ending faults_before faults_now) out_before out_now
+    pub cause : HasSinkCause ending faults_before faults_now
     pub does : Does words ending
+
+  -- A task ended with this status: it was done to an ending, and what belongs to it was printed.
+  pub record RunsTask (task : Task) (faults_before faults_now : ℕ) (out_before out_now : Option (List ℕ)) (status : ℕ) : Type 0 where
+    pub ending : Ended
+    pub status_is : status ≡ status_of ending
+    pub spoken : Told (Speaks ending faults_before faults_now) out_before out_now
+    pub cause : HasSinkCause ending faults_before faults_now
+    pub does : DoesTask task ending
 
   -- `pipe` ended with this status: so its project and its link were served, and the message of its ending was printed
   pub record RunsPipe (name : List ℕ) (entries : ℕ) (faults_before faults_now : ℕ) (out_before out_now : Option (List ℕ)) (status : ℕ) : Type 0 where
@@ -98,9 +124,30 @@ pub record IsAllThere (words : List (String Global)) (files : Option Lookup) (li
   pub file : IsSomeAnd files (λ content. DeclaresProject (content name) project)
   pub input : IsSomeAnd link (IsWhole project entries)
 
--- the words name a project file that is absent, as far as the files tell
+-- the files that a task reads
+abbrev pub IsReadBy : Task → List ℕ → Type 0
+IsReadBy (Pipe project entries) name = name ≡ project
+IsReadBy (Check project trace) name = (name ≡ project) ⊎ (name ≡ trace)
+IsReadBy (Replay project trace) name = (name ≡ project) ⊎ (name ≡ trace)
+
+-- a file that the words ask to read is absent, as far as the files tell
 pub record LacksFile (words : List (String Global)) (files : Option Lookup) : Type 0 where
+  pub task : Task
+  pub asks : AsksFor (map string_bytes words) task
   pub name : List ℕ
-  pub entries : ℕ
-  pub asks : AsksFor (map string_bytes words) (Pipe name entries)
+  pub is_read : IsReadBy task name
   pub absent : IfSome files (λ content. content name ≡ None)
+
+-- a report over a project file and a trace's file is asked for
+abbrev pub AsksReport : List (String Global) → List ℕ → List ℕ → Type 0
+AsksReport words project trace = AsksFor (map string_bytes words) (Check project trace) ⊎ AsksFor (map string_bytes words) (Replay project trace)
+
+-- all that a report is asked over is there: the one file declares a project, and the other holds a trace
+pub record AreBothThere (words : List (String Global)) (files : Option Lookup) : Type 0 where
+  pub project_name : List ℕ
+  pub trace_name : List ℕ
+  pub asks : AsksReport words project_name trace_name
+  pub project : ProjectView
+  pub trace : Trace
+  pub project_file : IsSomeAnd files (λ content. DeclaresProject (content project_name) project)
+  pub trace_file : IsSomeAnd files (λ content. HoldsTrace (content trace_name) trace)

@@ -3,6 +3,9 @@
 
 ghost use Rattle.std.specs.Prelude.{None};
 
+#[cfg(test)]
+mod tests;
+
 use mm_outside::{Failed, Link, Sink};
 use std::io::{Read, Write};
 

@@ -1,8 +1,9 @@
 //! The commands, as words of the command line.
 
 ghost use Rattle.std.specs.Prelude.{◌≡◌, ◌≢◌, ◌<◌, ◌^◌, ◌∷◌, [], ℕ, List, None, decimal, map, string_bytes, IfSome};
-ghost use Rattle.modmap.specs.Commands.{Pipe, task_of, AsksFor, AsksPipe, IsEntries};
+ghost use Rattle.modmap.specs.Commands.{Check, Replay, task_of, AsksAs, AsksFor, AsksOfTrace, AsksPipe, IsEntries};
 
+use crate::verb::Verb;
 use mapper_requests::read_decimal;
 
 /// The entries of a history that `pipe` keeps where its words don't say.
@@ -24,33 +25,77 @@ pub enum Command<'a> {
         /// The most entries of the history, 65,536 where the words don't say.
         entries: u32,
     },
+    /// `check PROJECT TRACE`: says whether a trace is legal.
+    Check {
+        /// The name of the project file.
+        project: &'a [u8],
+        /// The name of the trace's file.
+        trace: &'a [u8],
+    },
+    /// `replay PROJECT TRACE`: prints the entries of a trace and the replies that come with each.
+    Replay {
+        /// The name of the project file.
+        project: &'a [u8],
+        /// The name of the trace's file.
+        trace: &'a [u8],
+    },
 }
 
 impl<'a> Command<'a> {
     /// The command that the words are, without the program's name; `None` where they are of no form:
-    /// `pipe PROJECT [ENTRIES]` with ENTRIES from 3 to 1,048,576, decimal without leading zeros. The forms are this
-    /// project's own.
+    /// `pipe PROJECT [ENTRIES]` with ENTRIES from 3 to 1,048,576, decimal without leading zeros,
+    /// `check PROJECT TRACE`, or `replay PROJECT TRACE`. The forms are this project's own.
     pub fn read(words: &'a [String]) -> Option<Command<'a>>
         ensures asked { IfSome result (λ command. AsksFor (map string_bytes words.now) (task_of command)) }
         ensures none { result ≡ None → (task : _) → AsksFor (map string_bytes words.now) task → ⊥ }
     {
-        let Some((verb, rest)) = words.split_first() else {
+        let Some((first, rest)) = words.split_first() else {
             return None;
         };
-        if verb.as_str() == "pipe" {
-            read_pipe(rest)
-        } else {
-            None
+        match Verb::read(first.as_bytes()) {
+            Some(verb) => read_behind(verb, rest),
+            None => None,
         }
     }
+}
 
-    /// The project file and the entries that `pipe` is asked for.
-    pub fn parts(self) -> (&'a [u8], u32)
-        ensures { task_of self.entry ≡ Pipe result.0.now result.1 }
-    {
-        match self {
-            Command::Pipe { project, entries } => (project, entries),
-        }
+/// The command of this verb with these words behind it.
+fn read_behind(verb: Verb, words: &[String]) -> Option<Command<'_>>
+    ensures asked { IfSome result (λ command. AsksAs verb (map string_bytes words.now) (task_of command)) }
+    ensures none { result ≡ None → (task : _) → AsksAs verb (map string_bytes words.now) task → ⊥ }
+{
+    match verb {
+        Verb::Pipe => read_pipe(words),
+        Verb::Check => read_check(words),
+        Verb::Replay => read_replay(words),
+    }
+}
+
+/// The command `check` with these words behind it.
+fn read_check(words: &[String]) -> Option<Command<'_>>
+    ensures asked { IfSome result (λ command. AsksOfTrace Check (map string_bytes words.now) (task_of command)) }
+    ensures none { result ≡ None → (task : _) → AsksOfTrace Check (map string_bytes words.now) task → ⊥ }
+{
+    match words {
+        [project, trace] => Some(Command::Check {
+            project: project.as_bytes(),
+            trace: trace.as_bytes(),
+        }),
+        _ => None,
+    }
+}
+
+/// The command `replay` with these words behind it.
+fn read_replay(words: &[String]) -> Option<Command<'_>>
+    ensures asked { IfSome result (λ command. AsksOfTrace Replay (map string_bytes words.now) (task_of command)) }
+    ensures none { result ≡ None → (task : _) → AsksOfTrace Replay (map string_bytes words.now) task → ⊥ }
+{
+    match words {
+        [project, trace] => Some(Command::Replay {
+            project: project.as_bytes(),
+            trace: trace.as_bytes(),
+        }),
+        _ => None,
     }
 }
 

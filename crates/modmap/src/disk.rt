@@ -1,6 +1,9 @@
 //! The files of the machine. They tell no content: what a real file holds is outside every clause.
 
-ghost use Rattle.std.specs.Prelude.{◌≡◌, ◌≤◌, None, length, IfOk};
+ghost use Rattle.std.specs.Prelude.{◌≤◌, None, length, IfOk};
+
+#[cfg(test)]
+mod tests;
 
 use mm_outside::{Bytes, Failed, Files, Memory, ReadAllError, Text};
 use std::alloc::Global;

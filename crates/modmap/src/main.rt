@@ -1,4 +1,5 @@
-//! A C++20 module mapper server over the libcody protocol. Today it serves one link, over standard input and output.
+//! A C++20 module mapper server over the libcody protocol. Today it serves one link, over standard input and output, and
+//! checks and replays traces.
 #![tactic(auto)]
 
 ghost use Rattle.std.specs.Prelude.{◌↔◌, IsTrue};
@@ -6,19 +7,31 @@ ghost use Rattle.modmap.specs.Commands.{BeginsWithPipe};
 
 mod adapters;
 mod alone;
+mod check;
 mod command;
 mod disk;
 mod ending;
+mod held;
 mod pipe;
 mod project_file;
+mod replay;
+#[cfg(test)]
+mod replay_tests;
+mod sources;
+mod telling;
 #[cfg(test)]
 mod tests;
+mod trace_file;
+#[cfg(test)]
+mod trace_tests;
+mod verb;
 
 use adapters::{Pipe, WriterSink};
-use alone::{print_text, run_alone};
+use alone::run_alone;
 use disk::DiskFiles;
 use std::process::ExitCode;
 use std::{env, io};
+use telling::print_text;
 
 /// The words of the command line, without the program's name.
 fn words(rt: &HostRuntime) -> io::Result<Vec<String>> {

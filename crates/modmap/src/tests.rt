@@ -1,5 +1,8 @@
 //! Worked examples, by tables of inputs and outputs.
 
+mod faults;
+mod limits;
+
 use crate::alone::run_alone;
 use mm_outside::{MemFiles, MemLink, MemSink, Text};
 use std::alloc::Global;
@@ -36,17 +39,18 @@ end
 ";
 
 /// What is given, and what is to come out of it.
-struct Row {
-    project: &'static [u8],
-    words: &'static [&'static str],
-    input: &'static [u8],
-    output: &'static [u8],
+#[derive(Clone, Copy)]
+struct Row<'a> {
+    project: &'a [u8],
+    words: &'a [&'a str],
+    input: &'a [u8],
+    output: &'a [u8],
     status: u8,
-    message: &'static [u8],
+    message: &'a [u8],
 }
 
 /// The worked examples of one connection.
-const ROWS: [Row; 20] = [
+const ROWS: [Row<'static>; 20] = [
     Row {
         project: PROJECT,
         words: &["pipe", "p"],
@@ -209,16 +213,27 @@ const ROWS: [Row; 20] = [
     },
 ];
 
-/// Whether a run comes to what the row says.
-fn comes_to(rt: &HostRuntime, alloc: Global, row: &Row) -> Result<bool, Fail> {
-    let mut words = Vec::new(alloc);
-    for word in row.words {
-        words.push(String::from_str(alloc, word)?)?;
+/// The words as a command line has them.
+fn words_of(alloc: Global, words: &[&str]) -> Result<Vec<String>, Fail> {
+    let mut owned = Vec::new(alloc);
+    for word in words {
+        owned.push(String::from_str(alloc, word)?)?;
     }
+    Ok(owned)
+}
+
+/// Files with a project file `p` and no other.
+fn files_of(alloc: Global, project: &[u8]) -> Result<MemFiles, Fail> {
     let names = [Text::of(alloc, b"p")?];
-    let contents = [Text::of(alloc, row.project)?];
-    let mut files = MemFiles::new(alloc, &names, &contents, 0, 0, &[], &[])?;
-    let mut link = MemLink::new(alloc, row.input, 400, &[], &[], &[], &[])?;
+    let contents = [Text::of(alloc, project)?];
+    Ok(MemFiles::new(alloc, &names, &contents, 0, 0, &[], &[])?)
+}
+
+/// Whether a run over this link comes to what the row says.
+fn comes_to(rt: &HostRuntime, alloc: Global, row: &Row<'_>, link: MemLink) -> Result<bool, Fail> {
+    let words = words_of(alloc, row.words)?;
+    let mut files = files_of(alloc, row.project)?;
+    let mut link = link;
     let mut out = MemSink::new(alloc, 200, &[])?;
     let status = run_alone(rt, alloc, &words, &mut files, &mut link, &mut out);
     Ok(status == row.status && link.written() == row.output && out.written() == row.message)
@@ -227,7 +242,8 @@ fn comes_to(rt: &HostRuntime, alloc: Global, row: &Row) -> Result<bool, Fail> {
 #[test]
 fn worked_examples(rt: HostRuntime) -> Result<(), Fail> {
     for row in &ROWS {
-        assert!(rt; comes_to(&rt, rt.alloc(), row)?);
+        let link = MemLink::new(rt.alloc(), row.input, 400, &[], &[], &[], &[])?;
+        assert!(rt; comes_to(&rt, rt.alloc(), row, link)?, "{:?}", row.input);
     }
     Ok(())
 }

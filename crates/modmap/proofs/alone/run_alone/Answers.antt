@@ -1,38 +1,54 @@
-use Rattle.std.proofs.Common.{refl, sym, subst, map, ◌∙◌}
-use Rattle.std.specs.Prelude.{string_bytes}
+use Rattle.std.proofs.Common.{refl, sym, ◌∙◌}
 use Rattle.mm_outside.proofs.ToldLemmas.{Told-same}
-use Rattle.modmap.specs.Commands.{AsksFor}
+use Rattle.modmap.specs.Commands.{task_of}
 use Rattle.modmap.specs.Endings.{BadWords}
-use Rattle.modmap.specs.Running.{nothing, pipes}
-use Rattle.modmap.proofs.Complete.{completes, fault_of_read}
-use Rattle.modmap.proofs.Runnings.{never_two, none_left}
+use Rattle.modmap.specs.Running.{nothing, asked}
+use Rattle.modmap.proofs.Tasks.{asks_none, task_two, task_untouched, task_four, task_five, task_completes, task_reports}
 use Rattle.modmap.proofs.alone.run_alone.Goals as goal
 
-pub returns-clause-run : goal.returns-clause-run
-returns-clause-run g c =
-    let run = c.run_pipe.ensures.run in
-    record { ending = run.ending; status_is = run.status_is; message = run.message; does = pipes c.parts-entries.result.0.now c.parts-entries.result.1 (subst (λ task. AsksFor (map string_bytes c.args.words.now) task) c.parts-entries.ensures c.in-Some.ensures.asked) run.pipes }
+pub returns-in-Some-clause-run : goal.returns-in-Some-clause-run
+returns-in-Some-clause-run g c =
+    let run = c.run_command.ensures.run in
+    record { ending = run.ending; status_is = run.status_is; spoken = run.spoken; cause = run.cause; does = asked (task_of c.in-Some.command) c.in-Some.ensures.asked run.does }
 
-pub returns-clause-words : goal.returns-clause-words
-returns-clause-words g c =
-    let run = c.run_pipe.ensures.run in
-    (λ two. absurd (never_two _ _ _ run.ending run.pipes (sym run.status_is ∙ two)), λ none. absurd (none _ c.in-Some.ensures.asked))
+pub returns-in-Some-clause-words : goal.returns-in-Some-clause-words
+returns-in-Some-clause-words g c =
+    let run = c.run_command.ensures.run in
+    (λ two. absurd (task_two _ (task_of c.in-Some.command) run.ending run.does (sym run.status_is ∙ two)), λ none. absurd (none _ c.in-Some.ensures.asked))
 
-pub returns-in_default-clause-run : goal.returns-in_default-clause-run
-returns-in_default-clause-run g c = record { ending = BadWords; status_is = refl; message = c.print_text.ensures; does = nothing (c.read.ensures.none (none_left c.read.result c.in_default.not-Some)) refl (record { files = Told-same (λ x. refl); link = refl }) }
+pub returns-in-Some-clause-untouched : goal.returns-in-Some-clause-untouched
+returns-in-Some-clause-untouched g c =
+    let run = c.run_command.ensures.run in
+    task_untouched _ (task_of c.in-Some.command) run.ending _ run.status_is run.does
 
-pub returns-in_default-clause-words : goal.returns-in_default-clause-words
-returns-in_default-clause-words g c = (λ two. c.read.ensures.none (none_left c.read.result c.in_default.not-Some), λ none. refl)
+pub returns-in-Some-clause-read_fault : goal.returns-in-Some-clause-read_fault
+returns-in-Some-clause-read_fault g c =
+    let run = c.run_command.ensures.run in
+    task_four _ c.args.words.now (task_of c.in-Some.command) run.ending _ c.in-Some.ensures.asked run.status_is run.does
 
-pub returns-clause-read_fault : goal.returns-clause-read_fault
-returns-clause-read_fault g c =
-    let run = c.run_pipe.ensures.run in
-    fault_of_read _ c.args.words.now c.parts-entries.result.0.now c.parts-entries.result.1 (subst (λ task. AsksFor (map string_bytes c.args.words.now) task) c.parts-entries.ensures c.in-Some.ensures.asked) run.ending _ run.status_is run.pipes
+pub returns-in-Some-clause-write_fault : goal.returns-in-Some-clause-write_fault
+returns-in-Some-clause-write_fault g c =
+    let run = c.run_command.ensures.run in
+    task_five _ (task_of c.in-Some.command) run.ending _ _ _ run.status_is run.does run.cause
 
-pub returns-clause-complete : goal.returns-clause-complete
-returns-clause-complete g c =
-    let run = c.run_pipe.ensures.run in
-    completes _ c.args.words.now c.parts-entries.result.0.now c.parts-entries.result.1 (subst (λ task. AsksFor (map string_bytes c.args.words.now) task) c.parts-entries.ensures c.in-Some.ensures.asked) run.ending _ run.status_is run.pipes
+pub returns-in-Some-clause-complete : goal.returns-in-Some-clause-complete
+returns-in-Some-clause-complete g c =
+    let run = c.run_command.ensures.run in
+    task_completes _ c.args.words.now (task_of c.in-Some.command) run.ending _ c.in-Some.ensures.asked run.status_is run.does
 
-pub returns-in_default-clause-complete : goal.returns-in_default-clause-complete
-returns-in_default-clause-complete g c = λ there no_file no_read no_write. absurd (c.read.ensures.none (none_left c.read.result c.in_default.not-Some) _ there.asks)
+pub returns-in-Some-clause-reports : goal.returns-in-Some-clause-reports
+returns-in-Some-clause-reports g c =
+    let run = c.run_command.ensures.run in
+    task_reports _ c.args.words.now (task_of c.in-Some.command) run.ending _ _ _ c.in-Some.ensures.asked run.status_is run.does run.cause
+
+pub returns-in-None-clause-run : goal.returns-in-None-clause-run
+returns-in-None-clause-run g c = record { ending = BadWords; status_is = refl; spoken = c.print_text.ensures; cause = tt; does = nothing (c.in-None.ensures.none refl) refl (record { files = Told-same (λ x. refl); link = refl }) }
+
+pub returns-in-None-clause-words : goal.returns-in-None-clause-words
+returns-in-None-clause-words g c = (λ two. c.in-None.ensures.none refl, λ none. refl)
+
+pub returns-in-None-clause-complete : goal.returns-in-None-clause-complete
+returns-in-None-clause-complete g c = λ there no_file no_read no_write. absurd (c.in-None.ensures.none refl _ there.asks)
+
+pub returns-in-None-clause-reports : goal.returns-in-None-clause-reports
+returns-in-None-clause-reports g c = λ there no_file no_fault. absurd (asks_none c.args.words.now there.project_name there.trace_name (c.in-None.ensures.none refl) there.asks)

@@ -1,0 +1,189 @@
+-- What a command that reports on a project and a trace comes to.
+use Rattle.std.proofs.Common.{◌≡◌, ◌⊎◌, inl, inr, ℕ, ◌≤◌, Bool, true, false, List, Option, None, Result, Ok, Err, refl, sym, ap, subst, ◌∙◌, arith}
+use Rattle.mm_outside.specs.declared.errors.Failed.{Failed}
+use Rattle.mm_outside.specs.Causes.{Rose}
+use Rattle.mm_outside.specs.Files.{Lookup}
+use Rattle.mm_outside.specs.Sending.{AppendsAll}
+use Rattle.mm_outside.specs.Told.{Told}
+use Rattle.mm_outside.proofs.ToldLemmas.{Told-map, Told-then}
+use Rattle.unit_registry.specs.Projects.{ProjectView}
+use Rattle.histories.specs.declared.illegal_reason.IllegalReason.{IllegalReason}
+use Rattle.histories.specs.Histories.{IsLegal, IsFirstFault}
+use Rattle.histories.proofs.Legality.{none_if_legal, some_if_illegal}
+use Rattle.trace_text.specs.declared.trace.Trace.{Trace}
+use Rattle.modmap.specs.declared.sources.Sources.{Sources}
+use Rattle.modmap.specs.Endings.{Report, Ended, BadWords, OutOfMemory, CannotRead, FileTooLong, Refused, Served, Reported, Cut, Prints, Speaks, HasSinkCause, Tells, Issues, message_of, status_of}
+use Rattle.modmap.specs.ProjectFiles.{FindsProject, IsOfFile, IsUnreadable}
+use Rattle.modmap.specs.TraceFiles.{FindsTrace, IsTraceReadAs}
+use Rattle.modmap.specs.Reports.{Refuses, FindsBoth, IsReportOf, ReportsSo, RunsReport, fault_of, by_fault, illegal_report}
+
+-- ---- a count that rises later has risen
+
+-- a count that has risen since a later moment has risen since an earlier one
+pub rose_since : (before mid now : ℕ) → before ≤ mid → Rose mid now → Rose before now
+rose_since before mid now later rose = omega (arith, later, rose)
+
+-- ---- two files, one behind the other
+
+unreadable_since : (failed since : Type 0) → (failed → since) → (name : List ℕ) (held : Option (List ℕ)) (named : List ℕ) → IsUnreadable failed name held named → IsUnreadable since name held named
+unreadable_since failed since later name held named h = record { named_is = h.named_is; cause = by h.cause }
+  where
+    by : (held ≡ None) ⊎ failed → (held ≡ None) ⊎ since
+    by (inl absent) = inl absent
+    by (inr fault) = inr (later fault)
+
+trace_since : (failed since : Type 0) → (failed → since) → (name : List ℕ) (result : Result Trace Ended) (held : Option (List ℕ)) → IsTraceReadAs failed name result held → IsTraceReadAs since name result held
+trace_since failed since later name (Ok trace) held h = h
+trace_since failed since later name (Err BadWords) held h = h
+trace_since failed since later name (Err OutOfMemory) held h = h
+trace_since failed since later name (Err (CannotRead named)) held h = unreadable_since failed since later name held named h
+trace_since failed since later name (Err (FileTooLong named)) held h = h
+trace_since failed since later name (Err (Refused named line reason)) held h = h
+trace_since failed since later name (Err (Served how)) held h = h
+trace_since failed since later name (Err (Reported report)) held h = h
+trace_since failed since later name (Err (Cut report)) held h = h
+
+module _ (failed late since : Type 0) (project_name trace_name : List ℕ) (a b c : Option Lookup) where
+  -- the project that was read first, over both reads
+  project_first : (project : ProjectView) (result : Result Trace Ended) → Told (FindsProject failed project_name (Ok project)) a b → Told (FindsTrace late trace_name result) b c → Told (FindsProject since project_name (Ok project)) a c
+  project_first project result = Told-then {R = FindsProject failed project_name (Ok project)} {S = FindsTrace late trace_name result} {Q = FindsProject since project_name (Ok project)} (λ x y z p q. record { is_read_as = p.is_read_as; same = q.same ∙ p.same })
+
+  -- the trace that was read second, over both reads
+  trace_second : (late → since) → (project : ProjectView) (result : Result Trace Ended) → Told (FindsProject failed project_name (Ok project)) a b → Told (FindsTrace late trace_name result) b c → Told (FindsTrace since trace_name result) a c
+  trace_second later project result = Told-then {R = FindsProject failed project_name (Ok project)} {S = FindsTrace late trace_name result} {Q = FindsTrace since trace_name result} (λ x y z p q. record {
+    is_read_as = trace_since late since later trace_name result (x trace_name) (subst (λ (content : Lookup). IsTraceReadAs late trace_name result (content trace_name)) p.same q.is_read_as);
+    same = q.same ∙ p.same;
+  })
+
+  -- both were read
+  pub both_found : (late → since) → (sources : Sources) → Told (FindsProject failed project_name (Ok sources.project)) a b → Told (FindsTrace late trace_name (Ok sources.trace)) b c → FindsBoth since a c project_name trace_name (Ok sources)
+  both_found later sources first second = (project_first sources.project (Ok sources.trace) first second, trace_second later sources.project (Ok sources.trace) first second)
+
+  -- the trace wasn't
+  pub second_refused : (late → since) → (project : ProjectView) (ended : Ended) → IsOfFile ended → Told (FindsProject failed project_name (Ok project)) a b → Told (FindsTrace late trace_name (Err ended)) b c → FindsBoth since a c project_name trace_name (Err ended)
+  second_refused later project BadWords kind first second = absurd kind
+  second_refused later project OutOfMemory kind first second = Told-then {R = FindsProject failed project_name (Ok project)} {S = FindsTrace late trace_name (Err OutOfMemory)} (λ x y z p q. q.same ∙ p.same) first second
+  second_refused later project (CannotRead named) kind first second = Refuses.trace_refused project (project_first project (Err (CannotRead named)) first second) (trace_second later project (Err (CannotRead named)) first second)
+  second_refused later project (FileTooLong named) kind first second = Refuses.trace_refused project (project_first project (Err (FileTooLong named)) first second) (trace_second later project (Err (FileTooLong named)) first second)
+  second_refused later project (Refused named line reason) kind first second = Refuses.trace_refused project (project_first project (Err (Refused named line reason)) first second) (trace_second later project (Err (Refused named line reason)) first second)
+  second_refused later project (Served how) kind first second = absurd kind
+  second_refused later project (Reported report) kind first second = absurd kind
+  second_refused later project (Cut report) kind first second = absurd kind
+
+-- the project file wasn't read
+pub first_refused : (failed : Type 0) (project_name trace_name : List ℕ) (a b : Option Lookup) (ended : Ended) → IsOfFile ended → Told (FindsProject failed project_name (Err ended)) a b → FindsBoth failed a b project_name trace_name (Err ended)
+first_refused failed project_name trace_name a b BadWords kind told = absurd kind
+first_refused failed project_name trace_name a b OutOfMemory kind told = Told-map (λ x y p. p.same) told
+first_refused failed project_name trace_name a b (CannotRead named) kind told = Refuses.project_refused told
+first_refused failed project_name trace_name a b (FileTooLong named) kind told = Refuses.project_refused told
+first_refused failed project_name trace_name a b (Refused named line reason) kind told = Refuses.project_refused told
+first_refused failed project_name trace_name a b (Served how) kind told = absurd kind
+first_refused failed project_name trace_name a b (Reported report) kind told = absurd kind
+first_refused failed project_name trace_name a b (Cut report) kind told = absurd kind
+
+-- ---- endings
+
+module _ (failed : Type 0) (a b : Option Lookup) (project_name trace_name : List ℕ) where
+  stays : (ended : Ended) → Refuses failed a b project_name trace_name ended → Told (λ (old new : Lookup). new ≡ old) a b
+  stays ended (Refuses.project_refused told) = Told-map (λ x y p. p.same) told
+  stays ended (Refuses.trace_refused project first second) = Told-map (λ x y p. p.same) second
+
+  -- no file changed
+  aside : (ended : Ended) → IsOfFile ended → FindsBoth failed a b project_name trace_name (Err ended) → Told (λ (old new : Lookup). new ≡ old) a b
+  aside BadWords kind found = absurd kind
+  aside OutOfMemory kind found = found
+  aside (CannotRead named) kind found = stays (CannotRead named) found
+  aside (FileTooLong named) kind found = stays (FileTooLong named) found
+  aside (Refused named line reason) kind found = stays (Refused named line reason) found
+  aside (Served how) kind found = absurd kind
+  aside (Reported report) kind found = absurd kind
+  aside (Cut report) kind found = absurd kind
+
+  refused_both : (reports : ProjectView → Trace → Report) (ended : Ended) → IsOfFile ended → FindsBoth failed a b project_name trace_name (Err ended) → ReportsSo failed a b reports ended project_name trace_name
+  refused_both reports BadWords kind found = absurd kind
+  refused_both reports OutOfMemory kind found = found
+  refused_both reports (CannotRead named) kind found = found
+  refused_both reports (FileTooLong named) kind found = found
+  refused_both reports (Refused named line reason) kind found = found
+  refused_both reports (Served how) kind found = absurd kind
+  refused_both reports (Reported report) kind found = absurd kind
+  refused_both reports (Cut report) kind found = absurd kind
+
+  kind_speaks : (ended : Ended) (before now : ℕ) (x y : Option (List ℕ)) → IsOfFile ended → Told (Prints (message_of ended) before now) x y → Told (Speaks ended before now) x y
+  kind_speaks BadWords before now x y kind told = absurd kind
+  kind_speaks OutOfMemory before now x y kind told = told
+  kind_speaks (CannotRead named) before now x y kind told = told
+  kind_speaks (FileTooLong named) before now x y kind told = told
+  kind_speaks (Refused named line reason) before now x y kind told = told
+  kind_speaks (Served how) before now x y kind told = absurd kind
+  kind_speaks (Reported report) before now x y kind told = absurd kind
+  kind_speaks (Cut report) before now x y kind told = absurd kind
+
+  kind_cause : (ended : Ended) (before now : ℕ) → IsOfFile ended → HasSinkCause ended before now
+  kind_cause BadWords before now kind = tt
+  kind_cause OutOfMemory before now kind = tt
+  kind_cause (CannotRead named) before now kind = tt
+  kind_cause (FileTooLong named) before now kind = tt
+  kind_cause (Refused named line reason) before now kind = tt
+  kind_cause (Served how) before now kind = tt
+  kind_cause (Reported report) before now kind = tt
+  kind_cause (Cut report) before now kind = absurd kind
+
+  module _ (reports : ProjectView → Trace → Report) (before now : ℕ) (x y : Option (List ℕ)) (status : ℕ) where
+    -- a message was told of what a file brought
+    pub told_of_files : (ended : Ended) → IsOfFile ended → FindsBoth failed a b project_name trace_name (Err ended) → Tells ended before now x y status → RunsReport failed a b reports project_name trace_name before now x y status
+    told_of_files ended kind found tells = by tells.ending_is
+      where
+        ends : IsOfFile tells.ending → ReportsSo failed a b reports tells.ending project_name trace_name → RunsReport failed a b reports project_name trace_name before now x y status
+        ends its so = record { ending = tells.ending; status_is = tells.status_is; spoken = kind_speaks tells.ending before now x y its tells.message; cause = kind_cause tells.ending before now its; reports_so = so }
+
+        by : (tells.ending ≡ ended) ⊎ (tells.ending ≡ OutOfMemory) → RunsReport failed a b reports project_name trace_name before now x y status
+        by (inl same) = ends (subst (λ e. IsOfFile e) (sym same) kind) (subst (λ e. ReportsSo failed a b reports e project_name trace_name) (sym same) (refused_both reports ended kind found))
+        by (inr none) = ends (subst (λ e. IsOfFile e) (sym none) tt) (subst (λ e. ReportsSo failed a b reports e project_name trace_name) (sym none) (aside ended kind found))
+
+    -- memory ran out behind both files
+    pub told_of_memory : (sources : Sources) → FindsBoth failed a b project_name trace_name (Ok sources) → Tells OutOfMemory before now x y status → RunsReport failed a b reports project_name trace_name before now x y status
+    told_of_memory sources found tells = told_of_files OutOfMemory tt (Told-map (λ p q f. f.same) found.0) tells
+
+    -- the report was printed
+    pub issued : (sources : Sources) → FindsBoth failed a b project_name trace_name (Ok sources) → Issues (reports sources.project sources.trace) before now x y status → RunsReport failed a b reports project_name trace_name before now x y status
+    issued sources found issues = record { ending = issues.ending; status_is = issues.status_is; spoken = issues.spoken; cause = issues.cause; reports_so = by issues.ending_is }
+      where
+        is : IsReportOf failed a b reports project_name trace_name (reports sources.project sources.trace)
+        is = record { project = sources.project; trace = sources.trace; reads_project = found.0; reads_trace = found.1; report_is = refl }
+
+        by : (issues.ending ≡ Reported (reports sources.project sources.trace)) ⊎ (issues.ending ≡ Cut (reports sources.project sources.trace)) → ReportsSo failed a b reports issues.ending project_name trace_name
+        by (inl same) = subst (λ e. ReportsSo failed a b reports e project_name trace_name) (sym same) is
+        by (inr same) = subst (λ e. ReportsSo failed a b reports e project_name trace_name) (sym same) is
+
+-- ---- printing a report
+
+module _ (report : Report) (before now : ℕ) (x y : Option (List ℕ)) where
+  -- it was printed whole
+  pub issues_whole : (done : Unit {0}) → Told (AppendsAll {T = Unit {0}} {E = Failed} (Ok done) report.text) x y → Issues report before now x y (status_of (Reported report))
+  issues_whole done told = record { ending = Reported report; ending_is = inl refl; status_is = refl; spoken = told; cause = tt }
+
+  -- or up to a fault
+  pub issues_cut : (failed : Failed) → Rose before now → Told (AppendsAll {T = Unit {0}} {E = Failed} (Err failed) report.text) x y → Issues report before now x y 5
+  issues_cut failed rose told = record { ending = Cut report; ending_is = inr refl; status_is = refl; spoken = Told-map {R = AppendsAll {T = Unit {0}} {E = Failed} (Err failed) report.text} (λ p q h. record { count = h.0; proper = h.1; appended = h.2 }) told; cause = rose }
+
+-- its status, where all that it tells of is well or not
+pub issues_good : (text : List ℕ) (good : Bool) (before now : ℕ) (x y : Option (List ℕ)) (done : Unit {0}) → good ≡ true → Told (AppendsAll {T = Unit {0}} {E = Failed} (Ok done) text) x y → Issues (record { text = text; good = good }) before now x y 0
+issues_good text good before now x y done is told = subst (λ b. Issues (record { text = text; good = b }) before now x y 0) (sym is) (issues_whole (record { text = text; good = true }) before now x y done told)
+
+pub issues_bad : (text : List ℕ) (good : Bool) (before now : ℕ) (x y : Option (List ℕ)) (done : Unit {0}) → good ≡ false → Told (AppendsAll {T = Unit {0}} {E = Failed} (Ok done) text) x y → Issues (record { text = text; good = good }) before now x y 1
+issues_bad text good before now x y done is told = subst (λ b. Issues (record { text = text; good = b }) before now x y 1) (sym is) (issues_whole (record { text = text; good = false }) before now x y done told)
+
+-- ---- a check
+
+-- a legal trace has no fault
+pub legal_is : (project : ProjectView) (trace : Trace) (otherwise : Report) → IsLegal project trace.workers trace.limit trace.entries → by_fault (fault_of project trace) otherwise ≡ otherwise
+legal_is project trace otherwise legal = ap (λ found. by_fault found otherwise) ((none_if_legal project trace.workers trace.limit trace.entries).1 legal)
+
+-- the first fault of another is the one that was found
+pub illegal_is : (project : ProjectView) (trace : Trace) (otherwise : Report) (place : ℕ) (reason : IllegalReason) → IsFirstFault project trace.workers trace.limit trace.entries place reason → by_fault (fault_of project trace) otherwise ≡ illegal_report place reason
+illegal_is project trace otherwise place reason fault = ap (λ found. by_fault found otherwise) ((some_if_illegal project trace.workers trace.limit trace.entries place reason).1 fault)
+
+-- a report that is the same was printed
+pub issues_same : (report other : Report) (before now : ℕ) (x y : Option (List ℕ)) (status : ℕ) → report ≡ other → Issues report before now x y status → Issues other before now x y status
+issues_same report other before now x y status same issues = subst (λ r. Issues r before now x y status) same issues

@@ -1,0 +1,10 @@
+use Rattle.std.proofs.Common.{sym}
+use Rattle.modmap.specs.Reports.{illegal_report}
+use Rattle.modmap.specs.Replays.{replay_report, whole_report}
+use Rattle.modmap.proofs.Reporting.{issues_same, illegal_is}
+use Rattle.modmap.proofs.replay.issue_fault.Goals as goal
+
+pub returns : goal.returns
+returns g c =
+    issues_same (illegal_report c.args.place c.args.reason) (replay_report c.args.project.now c.args.trace.now) (g.K.Sink.faults c.args.out.now) (g.K.Sink.faults c.issue_illegal.new.out) (g.K.Sink.written c.args.out.now) (g.K.Sink.written c.issue_illegal.new.out) c.issue_illegal.result
+    (sym (illegal_is c.args.project.now c.args.trace.now (whole_report c.args.project.now c.args.trace.now) c.args.place c.args.reason c.requires.fault)) c.issue_illegal.ensures

@@ -1,0 +1,88 @@
+//! Lines, blocks and files at their limits and one past them.
+
+use super::{PROJECT, Row, comes_to};
+use mm_outside::MemLink;
+use std::alloc::Global;
+use std::test::Fail;
+
+/// A request of one line, with so many octets in the name that it exports.
+fn exporting(alloc: Global, octets: usize) -> Result<Vec<u8>, Fail> {
+    let mut line = b"MODULE-EXPORT ".to_vec(alloc)?;
+    for _ in 0..octets {
+        line.push(b'x')?;
+    }
+    line.push(b'\n')?;
+    Ok(line)
+}
+
+/// So many lines that go on, and one that ends them.
+fn lines(alloc: Global, going_on: &[u8], count: usize, last: &[u8]) -> Result<Vec<u8>, Fail> {
+    let mut block = going_on.repeat(alloc, count)?;
+    block.extend_from_slice(last)?;
+    Ok(block)
+}
+
+/// So many octets, all the same. It has no clause, so that a proof of its callers doesn't spell them out.
+fn octets(alloc: Global, count: usize) -> Result<Vec<u8>, Fail> {
+    Ok(vec![in alloc; b'x'; count]?)
+}
+
+/// Whether `pipe p` over the project comes to this.
+fn pipe_comes_to(
+    rt: &HostRuntime,
+    input: &[u8],
+    output: &[u8],
+    status: u8,
+    message: &[u8],
+) -> Result<bool, Fail> {
+    let row = Row {
+        project: PROJECT,
+        words: &["pipe", "p"],
+        input,
+        output,
+        status,
+        message,
+    };
+    let link = MemLink::new(rt.alloc(), input, 30_000, &[], &[], &[], &[])?;
+    comes_to(rt, rt.alloc(), &row, link)
+}
+
+#[test]
+fn longest_line(rt: HostRuntime) -> Result<(), Fail> {
+    let longest = exporting(rt.alloc(), 8178)?;
+    assert!(rt; pipe_comes_to(&rt, &longest, b"ERROR 'not connected'\n", 0, b"")?);
+    let longer = exporting(rt.alloc(), 8179)?;
+    assert!(rt; pipe_comes_to(&rt, &longer, b"ERROR 'line 1: line too long'\n", 0, b"")?);
+    Ok(())
+}
+
+#[test]
+fn longest_block(rt: HostRuntime) -> Result<(), Fail> {
+    let longest = lines(rt.alloc(), b"FOO ;\n", 1023, b"FOO\n")?;
+    let replies = lines(
+        rt.alloc(),
+        b"ERROR 'unknown request' ;\n",
+        1023,
+        b"ERROR 'unknown request'\n",
+    )?;
+    assert!(rt; pipe_comes_to(&rt, &longest, &replies, 0, b"")?);
+    let longer = lines(rt.alloc(), b"FOO ;\n", 1024, b"FOO\n")?;
+    assert!(rt; pipe_comes_to(&rt, &longer, b"", 8, b"modmap: block too long\n")?);
+    Ok(())
+}
+
+#[test]
+fn file_too_long(rt: HostRuntime) -> Result<(), Fail> {
+    let project = octets(rt.alloc(), 16_777_217)?;
+    let row = Row {
+        project: &project,
+        words: &["pipe", "p"],
+        input: b"FOO\n",
+        output: b"",
+        status: 6,
+        message: b"modmap: p: file too long\n",
+    };
+    let link = MemLink::new(rt.alloc(), row.input, 400, &[], &[], &[], &[])?;
+    assert!(rt; comes_to(&rt, rt.alloc(), &row, link)?);
+    Ok(())
+}
