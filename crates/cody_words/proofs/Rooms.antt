@@ -23,7 +23,7 @@ total-with_octet [] c some = absurd (omega arith)
 total-with_octet (w ∷ []) c some = omega (arith, total-cons (w ++ c ∷ []) [], total-cons w [], length_push w c)
 total-with_octet (w ∷ v ∷ words) c some = omega (arith, total-cons w (with_octet (v ∷ words) c), total-cons w (v ∷ words), total-with_octet (v ∷ words) c (omega arith))
 
-total-with_word : (words : List (List ℕ)) → total (with_word words) ≡ total words
+pub total-with_word : (words : List (List ℕ)) → total (with_word words) ≡ total words
 total-with_word words = ap length (flat_map-append (λ (x : List ℕ). x) words ([] ∷ []) ∙ append-nil _)
 
 pub HasRoom-push : (words : List (List ℕ)) (c count : ℕ) → HasRoom words (count + 1) → HasRoom (with_octet words c) count

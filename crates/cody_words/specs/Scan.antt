@@ -1,5 +1,5 @@
 -- The scan of a body, octet by octet: how the reader works, and no part of what a line means.
-use Rattle.std.specs.Prelude.{ℕ, ◌+◌, ◌-◌, ◌*◌, Bool, ◌||◌, ◌&&◌, not, ◌==◌, nat_lt, nat_le, if◌then◌else◌, List, [], ◌∷◌, ◌++◌, Option, Some, None}
+use Rattle.std.specs.Prelude.{ℕ, ◌+◌, ◌-◌, ◌*◌, Bool, true, false, ◌||◌, ◌&&◌, not, ◌==◌, nat_lt, nat_le, if◌then◌else◌, List, [], ◌∷◌, ◌++◌, Option, Some, None}
 use Rattle.std.specs.List.{fold, position_or_len}
 use Rattle.cody_words.specs.declared.reason.Reason.TheVariants.{ControlOctet, BackslashOutside, UnknownEscape, StraySemicolon, UnclosedQuote}
 use Rattle.cody_words.specs.declared.mode.Mode.{Mode}
@@ -109,10 +109,27 @@ step_in (Refused place reason) words at c = goes words at (Refused place reason)
 abbrev pub step : Scan → ℕ → Scan
 step scan c = step_in scan.mode scan.words scan.at c
 
--- how many octets, from the first on, may be appended to the last word at once in this mode
+-- whether no word is begun
+abbrev pub is_between : Mode → Bool
+is_between Between = true
+is_between mode = false
+
+-- whether octets that stand for themselves outside quotes go on with the last word in this mode, or begin one
+abbrev pub takes_run : Mode → List ℕ → Bool
+takes_run Outside octets = true
+takes_run Between [] = false
+takes_run Between (c ∷ octets) = not (c == semicolon)
+takes_run Semicolon octets = false
+takes_run Inside octets = false
+takes_run Escape octets = false
+takes_run (Digit value) octets = false
+takes_run (Refused place reason) octets = false
+
+-- how many octets, from the first on, may be appended to the last word at once in this mode, or begin one
 abbrev pub run_len : Mode → List ℕ → ℕ
 run_len Outside octets = position_or_len is_special octets
-run_len Between octets = 0
+run_len Between [] = 0
+run_len Between (c ∷ octets) = if c == semicolon then 0 else position_or_len is_special (c ∷ octets)
 run_len Semicolon octets = 0
 run_len Inside octets = 0
 run_len Escape octets = 0

@@ -9,6 +9,7 @@
 mod laws;
 mod line_buf;
 mod mode;
+mod octets;
 mod reader;
 mod reason;
 mod scanner;

@@ -2,7 +2,7 @@
 
 ghost use Rattle.std.specs.Prelude.{◌≡◌, ◌<◌, IfSome};
 ghost use Rattle.cody_words.specs.Room.{HasRoom, BeginsRoom, CanStep};
-ghost use Rattle.cody_words.specs.Scan.{is_white, is_control, is_special, hex_value, letter_value, goes, step_outside, step_between, step_semicolon, step_inside, step_escape, step_digit, step_in};
+ghost use Rattle.cody_words.specs.Scan.{is_white, is_control, hex_value, letter_value, goes, step_outside, step_between, step_semicolon, step_inside, step_escape, step_digit, step_in};
 
 use crate::reason::Reason;
 use crate::words::Words;
@@ -38,13 +38,6 @@ fn is_control(octet: u8) -> bool
     ensures { result ≡ is_control octet }
 {
     octet < b' ' && octet != b'\t' || octet == 0x7f
-}
-
-/// Whether the octet doesn't stand for itself outside quotes.
-pub(crate) fn is_special(octet: u8) -> bool
-    ensures { result ≡ is_special octet }
-{
-    octet <= b' ' || octet == b'\'' || octet == b'\\' || octet == 0x7f
 }
 
 /// The value of a hexadecimal digit.

@@ -1,13 +1,14 @@
 //! The scan of a line's body, octet by octet.
 
-ghost use Rattle.std.specs.Prelude.{◌≡◌, ◌+◌, ◌<◌, ◌≤◌, IfOk, false, length, take, position};
+ghost use Rattle.std.specs.Prelude.{◌≡◌, ◌+◌, ◌<◌, ◌≤◌, IfOk, true, false, length, take, position};
 ghost use Rattle.std.specs.List.{AllByRecursion, fold, position_or_len};
 ghost use Rattle.cody_words.specs.Lines.{longest_line};
 ghost use Rattle.cody_words.specs.Reading.{told, more_of};
-ghost use Rattle.cody_words.specs.Scan.{start, step, is_special, run_len, verdict};
-ghost use Rattle.cody_words.specs.declared.mode.Mode.TheVariants.{Outside};
+ghost use Rattle.cody_words.specs.Scan.{start, step, is_between, is_special, run_len, takes_run, verdict};
+ghost use Rattle.cody_words.specs.declared.mode.Mode.TheVariants.{Between, Outside};
 
-use crate::mode::{Mode, is_special};
+use crate::mode::Mode;
+use crate::octets::is_special;
 use crate::reader::Reading;
 use crate::reason::Reason;
 use crate::words::Words;
@@ -89,8 +90,8 @@ impl Scanner {
         }
     }
 
-    /// Scans some of the octets, and returns how many: in a word outside quotes all up to the next
-    /// special one, and else the first alone.
+    /// Scans some of the octets, and returns how many: outside quotes all up to the next special
+    /// one where they go on with a word or begin one, and else the first alone.
     fn push_some(&mut self, octets: &[u8]) -> usize
         requires some { 0 < length octets.now }
         requires room { self.old.at + length octets.now ≤ longest_line }
@@ -104,18 +105,55 @@ impl Scanner {
             return 1;
         }
         let (run, _) = octets.split_at(count);
-        self.extend(run);
+        self.push_bare(run);
         count
     }
 
-    /// How many of the octets may be appended to the last word at once.
+    /// How many of the octets may be appended to the last word at once, or begin one.
     fn run_len(&self, octets: &[u8]) -> usize
+        requires { 0 < length octets.now }
         ensures { result ≡ run_len self.now.mode octets.now }
     {
         match self.mode {
             Mode::Outside => bare_len(octets),
+            Mode::Between if octets[0] != b';' => bare_len(octets),
             _ => 0,
         }
+    }
+
+    /// Scans octets that stand for themselves, in a word or as the first of one.
+    fn push_bare(&mut self, run: &[u8])
+        requires room { self.old.at + length run.now ≤ longest_line }
+        requires run { takes_run self.old.mode run.now ≡ true }
+        requires bare { AllByRecursion (λ octet. is_special octet ≡ false) run.now }
+        ensures { self.new ≡ fold step self.old run.now }
+    {
+        if self.is_between() {
+            self.begin(run);
+        } else {
+            self.extend(run);
+        }
+    }
+
+    /// Whether no word is begun.
+    fn is_between(&self) -> bool
+        ensures { result ≡ is_between self.now.mode }
+    {
+        matches!(self.mode, Mode::Between)
+    }
+
+    /// Begins a word by octets that stand for themselves.
+    fn begin(&mut self, run: &[u8])
+        requires room { self.old.at + length run.now ≤ longest_line }
+        requires run { self.old.mode ≡ Between }
+        requires first { takes_run Between run.now ≡ true }
+        requires bare { AllByRecursion (λ octet. is_special octet ≡ false) run.now }
+        ensures { self.new ≡ fold step self.old run.now }
+    {
+        self.words.begin();
+        self.words.extend(run);
+        self.mode = Mode::Outside;
+        self.at += run.len() as u32;
     }
 
     /// Appends octets to the last word that stand for themselves.

@@ -7,19 +7,9 @@ ghost use Rattle.cody_words.specs.Buffers.{Appends};
 ghost use Rattle.cody_words.specs.Canonical.{is_bare_letter, is_bare, quoted_octet, quote, next_word, mark, canonical_line, words_of, word_room, line_room};
 
 use crate::line_buf::LineBuf;
+use crate::octets::is_bare_letter;
 use crate::words::Words;
 use itoa::Buffer;
-
-/// Whether the octet may stand in a word without quotes.
-#[tactic(auto, unfolding(crate::specs::Canonical::is_bare_letter))]
-fn is_bare_letter(octet: u8) -> bool
-    ensures { result ≡ is_bare_letter octet }
-{
-    matches!(
-        octet,
-        b'-' | b'+' | b'_' | b'/' | b'%' | b'.' | b'A'..=b'Z' | b'a'..=b'z' | b'0'..=b'9'
-    )
-}
 
 /// Whether each octet may stand without quotes.
 fn has_bare_letters(word: &[u8]) -> bool

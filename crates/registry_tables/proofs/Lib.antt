@@ -2,3 +2,4 @@ pub mod Tabling
 pub mod Openings
 pub mod Pairs
 pub mod Settling
+pub mod Padding

@@ -9,7 +9,7 @@ use Rattle.histories.specs.declared.answered.Answered.{Answered}
 use Rattle.unit_registry.specs.Acts.{names, hello_of, unit_of, is_export_of, is_compiled_of, goes}
 use Rattle.histories.specs.Answered.{is_accepted}
 use Rattle.histories.specs.Answered.{takes, accepted_hello, who_by, who, is_exported, is_reported, has_gone}
-use Rattle.registry_tables.specs.declared.tables.ConnRow.{ConnRow}
+use Rattle.registry_tables.specs.declared.conn_rows.ConnRow.{ConnRow}
 use Rattle.registry_tables.specs.declared.tables.UnitRow.{UnitRow}
 use Rattle.registry_tables.specs.Tabled.{UnitRows, ConnRows, IsUnitRow, IsConnRow, unit_row_after, conn_row_after}
 

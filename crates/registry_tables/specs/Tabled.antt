@@ -1,16 +1,16 @@
 -- The tables, as callers see them, and what they hold.
-use Rattle.std.specs.Prelude.{◌≡◌, ℕ, ◌<◌, ◌≤◌, ◌^◌, Bool, false, ◌||◌, ◌&&◌, is_some, is_none, not, All, List, length, reverse, get_or, Option, Some, None, if◌then◌else◌}
+use Rattle.std.specs.Prelude.{◌≡◌, ℕ, ◌-◌, ◌<◌, ◌≤◌, ◌^◌, ◌++◌, replicate, Bool, false, ◌||◌, ◌&&◌, is_some, is_none, not, All, List, length, reverse, get_or, Option, Some, None, if◌then◌else◌}
 use Rattle.std.specs.Global.{Vec}
 use Rattle.std.specs.Option.{option_map_or}
 use Rattle.histories.specs.declared.answered.Answered.{Answered}
 use Rattle.histories.specs.declared.standing.Fate.{Fate}
 use Rattle.histories.specs.declared.standing.Fate.TheVariants.{Compiled, Failed}
-use Rattle.histories.specs.declared.standing.Who.TheVariants.{Holder}
+use Rattle.histories.specs.declared.standing.Who.TheVariants.{Nobody, Holder}
 use Rattle.unit_registry.specs.Acts.{is_export_of, is_compiled_of, is_pause, goes}
 use Rattle.unit_registry.specs.Projects.{ProjectView, is_built, unit_count}
 use Rattle.histories.specs.Answered.{is_accepted}
 use Rattle.histories.specs.Answered.{accepted_hello, takes, who_by, has_gone, holder, who, is_exported, is_reported, is_paused, open_connections, opened_count, done_count}
-use Rattle.registry_tables.specs.declared.tables.ConnRow.{ConnRow}
+use Rattle.registry_tables.specs.declared.conn_rows.ConnRow.{ConnRow}
 use Rattle.registry_tables.specs.declared.tables.UnitRow.{UnitRow}
 
 -- the project; for how many connections there is a row, for how many at a time there is room, and for how many entries;
@@ -54,6 +54,14 @@ conn_row_after row newest = record {
 -- each row holds the words of its unit
 pub record UnitRows (units : List UnitRow) (answered : List Answered) : Type 0 where
   pub row : (number : ℕ) (other : UnitRow) → number < length units → IsUnitRow (get_or units number other) answered number
+
+-- the row of a connection of which no entry says anything
+abbrev pub empty_row : ConnRow
+empty_row = record { who = Nobody; paused = false; gone = false }
+
+-- rows that were written, and empty ones behind them
+abbrev pub padded : List ConnRow → ℕ → List ConnRow
+padded rows room = rows ++ replicate (room - length rows) empty_row
 
 -- each row holds the words of its connection
 pub record ConnRows (conns : List ConnRow) (answered : List Answered) : Type 0 where

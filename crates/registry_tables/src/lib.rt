@@ -5,6 +5,7 @@
 #![tactic(auto)]
 
 mod acts;
+mod conn_rows;
 mod imports;
 mod stalls;
 mod tables;

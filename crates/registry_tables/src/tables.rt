@@ -10,9 +10,10 @@ ghost use Rattle.histories.specs.declared.standing.Who.TheVariants.{Holder};
 ghost use Rattle.unit_registry.specs.Acts.{unit_of, is_open_act, is_done};
 ghost use Rattle.unit_registry.specs.Projects.{is_built};
 ghost use Rattle.histories.specs.Answered.{is_accepted};
-ghost use Rattle.registry_tables.specs.Tabled.{Tabled, fate_in, is_free_in, UnitRows, ConnRows, unit_row_after, conn_row_after};
+ghost use Rattle.registry_tables.specs.Tabled.{Tabled, fate_in, is_free_in, UnitRows, unit_row_after};
 
 use crate::acts;
+use crate::conn_rows::ConnTable;
 use histories::{Answered, Fate, Who};
 use mm_outside::Memory;
 use std::alloc::Global;
@@ -28,14 +29,6 @@ pub struct UnitRow {
     pub reported: bool,
 }
 
-/// What the entries say of a connection.
-#[derive(Clone, Copy, Drop)]
-pub struct ConnRow {
-    pub who: Who,
-    pub paused: bool,
-    pub gone: bool,
-}
-
 /// What the entries say of each unit and of each connection. All its memory is taken when it is made.
 #[derive(Drop)]
 pub struct Tables {
@@ -43,7 +36,7 @@ pub struct Tables {
     built: Vec<bool>,
     given: Vec<bool>,
     units: Vec<UnitRow>,
-    conns: Vec<ConnRow>,
+    conns: ConnTable,
     open: Vec<u32>,
     answered: Vec<Answered>,
     opened: u32,
@@ -56,9 +49,9 @@ impl Model for Tables {
 
     ghost Value = { Tabled };
 
-    ghost view = { λ tables. record { project = tables.project.value; room = length tables.conns.items; seats = vec_capacity tables.open; places = vec_capacity tables.answered; given = tables.given.items; answered = reverse tables.answered.items } };
+    ghost view = { λ tables. record { project = tables.project.value; room = length tables.conns; seats = vec_capacity tables.open; places = vec_capacity tables.answered; given = tables.given.items; answered = reverse tables.answered.items } };
 
-    ghost invariant = { λ tables. IsTabled tables.answered tables.units.items tables.conns.items tables.given.items tables.built.items tables.open tables.opened tables.done tables.project.value };
+    ghost invariant = { λ tables. IsTabled tables.answered tables.units.items tables.conns tables.given.items tables.built.items tables.open tables.opened tables.done tables.project.value };
 }
 
 impl Tables {
@@ -84,17 +77,12 @@ impl Tables {
             exported: false,
             reported: false,
         };
-        let conn = ConnRow {
-            who: Who::Nobody,
-            paused: false,
-            gone: false,
-        };
         Ok(Tables {
             project: Snapshot::of(project),
             built: built_marks(alloc, project)?,
             given: vec![in alloc; false; count]?,
             units: vec![in alloc; unit; count]?,
-            conns: vec![in alloc; conn; room as usize]?,
+            conns: ConnTable::new(alloc, room)?,
             open: Vec::with_capacity(alloc, seats as usize)?,
             answered: Vec::with_capacity(alloc, places as usize)?,
             opened: 0,
@@ -132,7 +120,7 @@ impl Tables {
         ensures who { result ≡ who self.now.answered conn }
         ensures within { (unit : ℕ) → result ≡ Holder unit → unit < unit_count self.now.project }
     {
-        self.conns[conn as usize].who
+        self.conns.row(conn).who
     }
 
     /// Whether the connection's last act is a Pause.
@@ -140,7 +128,7 @@ impl Tables {
         requires { conn < self.now.room }
         ensures { result ≡ is_paused self.now.answered conn }
     {
-        self.conns[conn as usize].paused
+        self.conns.row(conn).paused
     }
 
     /// Whether the connection has left or was lost.
@@ -148,7 +136,7 @@ impl Tables {
         requires { conn < self.now.room }
         ensures { result ≡ has_gone self.now.answered conn }
     {
-        self.conns[conn as usize].gone
+        self.conns.row(conn).gone
     }
 
     /// The connections that are open.
@@ -232,7 +220,7 @@ impl Tables {
         ensures { result ≡ option_map_or (has_gone self.now.answered) (holder self.now.answered unit) false }
     {
         match self.holder(unit) {
-            Some(conn) => self.conns[conn as usize].gone,
+            Some(conn) => self.conns.row(conn).gone,
             None => false,
         }
     }
@@ -264,7 +252,7 @@ impl Tables {
         requires fresh { is_open_act newest.act ≡ true → has_gone self.old.answered newest.conn ≡ false }
         ensures { self.new ≡ record self.old { answered = newest ∷ self.old.answered } }
     {
-        note_in_conns(&mut self.conns, newest);
+        self.conns.note(newest);
         note_in_units(&mut self.units, newest);
         note_open(&mut self.open, newest);
         self.opened = opened_after(self.opened, newest);
@@ -305,18 +293,6 @@ fn note_unit(row: &mut UnitRow, unit: u32, newest: Answered)
     }
 }
 
-fn note_conn(row: &mut ConnRow, newest: Answered)
-    ensures { row.new ≡ conn_row_after row.old newest }
-{
-    match acts::accepted_hello(newest) {
-        Some(Some(unit)) => row.who = Who::Holder(unit),
-        Some(None) => row.who = Who::Guest,
-        None => {}
-    }
-    row.paused = acts::is_pause(newest.act);
-    row.gone = acts::goes(newest.act) || row.gone;
-}
-
 #[tactic(auto, using(crate::proofs::Tabling::units_named, crate::proofs::Tabling::units_unnamed))]
 fn note_in_units(units: &mut Vec<UnitRow>, newest: Answered)
     requires { IfSome (unit_of newest.act) (λ unit. unit < length units.old.items) }
@@ -325,17 +301,6 @@ fn note_in_units(units: &mut Vec<UnitRow>, newest: Answered)
 {
     if let Some(unit) = acts::unit_of(newest.act) {
         note_unit(&mut units[unit as usize], unit, newest);
-    }
-}
-
-/// A Done is of no connection.
-#[tactic(auto, using(crate::proofs::Tabling::conns_after, crate::proofs::Tabling::conns_past))]
-fn note_in_conns(conns: &mut Vec<ConnRow>, newest: Answered)
-    ensures rows { (answered : List Answered) → ConnRows conns.old.items answered → ConnRows conns.new.items (newest ∷ answered) }
-    ensures len { length conns.new.items ≡ length conns.old.items }
-{
-    if (newest.conn as usize) < conns.len() {
-        note_conn(&mut conns[newest.conn as usize], newest);
     }
 }
 

@@ -17,15 +17,15 @@ note_open-requires c opens =
 pub invariant_of-self : goal.invariant_of-self
 invariant_of-self c =
     let now : reverse c.push_reserved.new.self.items ≡ c.args.newest ∷ reverse c.self.inside.answered.items = ap reverse c.push_reserved.ensures.items ∙ reverse_push c.self.inside.answered.items c.args.newest in
-    let conn : is_done c.args.newest.act ≡ false → c.args.newest.conn < length c.self.inside.conns.items = subst (λ (t : Tabled). is_done c.args.newest.act ≡ false → c.args.newest.conn < t.room) (sym c.self.view_is) c.requires.conn in
+    let conn : is_done c.args.newest.act ≡ false → c.args.newest.conn < length c.self.inside.conns = subst (λ (t : Tabled). is_done c.args.newest.act ≡ false → c.args.newest.conn < t.room) (sym c.self.view_is) c.requires.conn in
     record {
-      open_within = rw c.note_in_conns.ensures.len (c.note_open.ensures.within (length c.self.inside.conns.items) (λ s. conn (opens_no_done c.args.newest.act s)) c.self.invariant.open_within);
+      open_within = rw c.note.ensures.len (c.note_open.ensures.within (length c.self.inside.conns) (λ s. conn (opens_no_done c.args.newest.act s)) c.self.invariant.open_within);
       unit_rows = rw now (c.note_in_units.ensures.rows (reverse c.self.inside.answered.items) c.self.invariant.unit_rows);
-      conn_rows = rw now (c.note_in_conns.ensures.rows (reverse c.self.inside.answered.items) c.self.invariant.conn_rows);
+      conn_rows = rw now (c.note.ensures.rows (reverse c.self.inside.answered.items) c.self.invariant.conn_rows);
       open_is = rw now (c.note_open.ensures.open (reverse c.self.inside.answered.items) c.self.invariant.open_is (search rules));
       opened_is = rw now (c.opened_after-self-inside.ensures.opened (reverse c.self.inside.answered.items) c.self.invariant.opened_is);
       done_is = rw now (c.done_after-self-inside.ensures.done (reverse c.self.inside.answered.items) c.self.invariant.done_is);
-      holders = rw now (holder_within c.args.newest (reverse c.self.inside.answered.items) _ (rw c.note_in_conns.ensures.len conn) (rw c.note_in_conns.ensures.len c.self.invariant.holders));
+      holders = rw now (holder_within c.args.newest (reverse c.self.inside.answered.items) _ (rw c.note.ensures.len conn) (rw c.note.ensures.len c.self.invariant.holders));
       held_within = rw now (held_within c.args.newest (reverse c.self.inside.answered.items) (unit_count c.self.inside.project.value) (subst (λ (t : Tabled). IfSome (unit_of c.args.newest.act) (λ u. u < unit_count t.project)) (sym c.self.view_is) c.requires.unit) c.self.invariant.held_within);
       built_is = c.self.invariant.built_is;
       open_few = search rules;
