@@ -127,11 +127,6 @@ module _ {A : Type 0} where
   got_left (x ∷ xs) ys zero y lt e = e
   got_left (x ∷ xs) ys (suc i) y lt e = got_left xs ys i y (omega arith) e
 
-  pub got_within : (xs : List A) (i : ℕ) (y : A) → slice_get xs i ≡ Some y → i < length xs
-  got_within [] i y e = absurd (cc)
-  got_within (x ∷ xs) zero y e = omega arith
-  got_within (x ∷ xs) (suc i) y e = omega (arith, got_within xs i y e)
-
 -- ---- how often a number stands in a list
 
 pub times-cons : (x y : ℕ) (ys : List ℕ) → times x (y ∷ ys) ≡ cond (y == x) 1 0 + times x ys

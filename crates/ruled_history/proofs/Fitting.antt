@@ -150,6 +150,7 @@ module _ (opening : LedgerView) (entries : List Entry) (makers : List ℕ) (owne
       enough = ok.enough;
       of_nobody = all_front (λ (newest : Entry). IsTrue (is_done newest.act) → newest.conn ≡ no_connection) entries v.seen ok.begins nobody;
       numbered = λ conn has. let own = ok.connections_own conn has in let few = few_opened opening entries all in omega (arith, own.1);
+      bare = ok.bare;
     }
 
 -- a spent seat

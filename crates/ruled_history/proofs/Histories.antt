@@ -15,7 +15,7 @@ use Rattle.histories.specs.Histories.{noted_of, answered_in, IsLegal}
 use Rattle.histories.specs.Counts.{Effect, Opens, Asks, Goes, Ends, effect_of, ChangesOpened, ChangesOpen, ChangesDone, ChangesReserved, ChangesOwn, MayCome}
 use Rattle.histories.proofs.Acyclic.{answered_entry}
 use Rattle.histories.proofs.Legality.{noted_push, legal_prefix, legal_push, length-noted_of}
-use Rattle.histories.proofs.LegalCounts.{enough_workers, ends_fit, opened_with, open_with, done_with, reserved_with, own_with, numbers_below}
+use Rattle.histories.proofs.LegalCounts.{ends_fit, opened_with, open_with, done_with, reserved_with, own_with, numbers_below}
 use Rattle.histories.proofs.Passing.{other_open}
 use Rattle.histories.proofs.Coming.{may_come}
 use Rattle.registry_core.specs.Ledgers.{LedgerView, IsLedger, Passes, is_open_in, opened_in, open_in, done_in, reserved_in}
@@ -83,9 +83,6 @@ module _ (opening : LedgerView) where
   }
 
   -- ---- counts
-
-  pub enough_in : (entries : List Entry) → IsLedger (with_entries opening entries) → open_in (with_entries opening entries) + done_in (with_entries opening entries) ≤ opening.workers
-  enough_in entries was = enough_workers opening.project opening.workers opening.limit entries was.legal
 
   pub fits_in : (entries : List Entry) → IsLedger (with_entries opening entries) → length entries + reserved_in (with_entries opening entries) ≤ opening.limit
   fits_in entries was = ends_fit opening.project opening.workers opening.limit entries was.few was.legal

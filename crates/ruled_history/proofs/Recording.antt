@@ -3,6 +3,7 @@ use Rattle.std.proofs.Common.{◌≡◌, ◌⊎◌, ⊎_elim, ℕ, ◌+◌, ◌-
 use Rattle.std.specs.Prelude.{Option, sum_by, count_by, slice_get, if◌then◌else◌}
 use Rattle.std.proofs.lemmas.Bool.Decides.{nat_tests}
 use Rattle.std.proofs.lemmas.List.Elements.{All-push}
+use Rattle.std.proofs.lemmas.Option.{slice_get_within}
 use mathlib.Core.Option.{some, none}
 use lib.ListN.{get_elem?}
 use Rattle.atomic_table.specs.Table.{step, keeps, Allows}
@@ -19,7 +20,7 @@ use Rattle.ruled_history.specs.Runs.{StartsWith, Has, in_run}
 use Rattle.ruled_history.specs.Rule.{HasTurn, SeatFits, RoomFits}
 use Rattle.ruled_history.specs.Steps.{recorded}
 use Rattle.ruled_history.specs.Views.{with_entries, tickets, share_of, opened_of, dones_of, room_of, adds, MayAdd}
-use Rattle.ruled_history.proofs.Counts.{sum_set, in_list, begins_all, begins_more, snoc_same, got_end, got_within, in_run_out, made_before, made_last, made_here, own_place, own_early, other_place}
+use Rattle.ruled_history.proofs.Counts.{sum_set, in_list, begins_all, begins_more, snoc_same, got_end, in_run_out, made_before, made_last, made_here, own_place, own_early, other_place}
 use Rattle.ruled_history.proofs.Histories.{opens, goes, ends, fits_in, ledger_push, opened_more, open_more, done_more, reserved_more, few_opened, numbered}
 use Rattle.ruled_history.proofs.OwnEntries.{Changes, changes, dones_with}
 use Rattle.ruled_history.proofs.Fitting.{seats_set, turn_recorded, slot_away, slot_kept}
@@ -85,7 +86,7 @@ module _ {B : Type 0} (Stands : B → List Entry → Type 0) (metered : Bool) (o
       let next : ℕ = opened_in (with_entries opening r.entries) in
       let opened_more' = opened_more opening r.entries e legal' in
       let belongs' : ℕ → ℕ = now_belongs r.belongs next id in
-      let far : (place : ℕ) (x : Entry) → slice_get r.entries place ≡ Some x → place < length r.makers = λ place x old. let there = got_within r.entries place x old in omega arith in (
+      let far : (place : ℕ) (x : Entry) → slice_get r.entries place ≡ Some x → place < length r.makers = λ place x old. let there = slice_get_within r.entries place x old in omega arith in (
         w,
         keeps,
         tt,

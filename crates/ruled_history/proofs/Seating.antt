@@ -15,7 +15,7 @@ use Rattle.ruled_history.specs.declared.board.View.{View}
 use Rattle.ruled_history.specs.declared.board.Stage.TheVariants.{Idle}
 use Rattle.ruled_history.specs.Runs.{times, made_at}
 use Rattle.ruled_history.specs.Rule.{HasTurn, SeatFits, RoomFits}
-use Rattle.ruled_history.specs.Views.{with_entries, tickets_at, tickets, share_of, opened_of, dones_of, room_of, is_done_at, rest_of, cut_off, longer, joined, spent}
+use Rattle.ruled_history.specs.Views.{with_entries, tickets_at, tickets, share_of, opened_of, dones_of, room_of, is_done_at, rest_of, cut_off, longer, joined, spent, Knows, IsBare}
 use Rattle.ruled_history.proofs.Counts.{sum_set, begins_length, times-append, made_join, made_le, longer_begins, count_same, count-append, has_left, has_right, has_either, once_joined, at_end, append_none}
 use Rattle.ruled_history.proofs.Fitting.{seats_set, grown, dones_grown, spent_fits, longest_kept, longest_joined, slot_longer, slot_kept}
 use Rattle.ruled_history.proofs.Turning.{Rule, Fits}
@@ -47,6 +47,18 @@ joined_run : (owner : ℕ → ℕ) (id other workers : ℕ) (v w : View) → ((x
     → (x : ℕ) → v.first ≤ x → x < v.first + (v.share + w.share) → Dec (x < v.first + v.share) → (x < workers) × (took_over owner id other x ≡ id)
 joined_run owner id other workers v w here there next ne x low high (yes d) = let p = here x low d in (p.0, took_over-other owner id other x (λ e. ne (sym p.1 ∙ e)) ∙ p.1)
 joined_run owner id other workers v w here there next ne x low high (no d) = let p = there x (omega arith) (omega arith) in (p.0, took_over-same owner id other x p.1)
+
+-- the two seats of a split have no entry and no connection
+pub bare_rest : (opening : LedgerView) (share room : ℕ) (v : View) → Knows opening v → v.places ≡ [] → IsBare (rest_of share room v)
+bare_rest opening share room v knows empty = record {
+  places = empty;
+  connections = knows.bare empty;
+  opened = knows.opened_is ∙ ap (count_by (is_open_in (with_entries opening v.seen))) (knows.bare empty);
+  dones = knows.dones_is ∙ ap (count_by (is_done_at v.seen)) empty;
+}
+
+pub bare_cut : (share room : ℕ) (v : View) → IsBare (cut_off share room v)
+bare_cut share room v = record { places = refl; connections = refl; opened = refl; dones = refl }
 
 -- no connection is there where nothing was entered
 module _ (opening : LedgerView) (entries : List Entry) (makers : List ℕ) {away : Type 0} {drawn served : ℕ} {holder : ℕ → ℕ} (owner belongs : ℕ → ℕ) (seat : ℕ) (v : View) (ok : SeatFits opening entries makers away drawn served holder owner belongs seat v) (empty : v.places ≡ []) where

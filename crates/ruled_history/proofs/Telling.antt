@@ -1,6 +1,7 @@
 -- What a desk tells, by what its seat knows, before and after a turn.
 use Rattle.std.proofs.Common.{◌≡◌, ℕ, ◌+◌, ◌-◌, ◌<◌, ◌≤◌, Bool, true, false, ◌||◌, ◌&&◌, List, [], ◌∷◌, ◌++◌, length, All, get_or, Option, Some, None, is_some, refl, sym, ap, ap₂, subst, ◌∙◌, arith, true≢false}
 use Rattle.std.specs.Prelude.{if◌then◌else◌, Result, Ok, Err, IfErr, IsOk}
+use Rattle.std.proofs.Math.Bool.{and-false, or-false, or-true}
 use Rattle.std.proofs.lemmas.Bool.{and_parts}
 use Rattle.std.proofs.lemmas.List.Elements.{Contains-get_or}
 use mathlib.Core.Logic.{dite}
@@ -17,12 +18,12 @@ use Rattle.registry_core.specs.Ledgers.{LedgerView, Appends, IsFull, said_in, sa
 use Rattle.registry_core.specs.declared.leaving.Leaving.{Leaving}
 use Rattle.registry_core.specs.declared.leaving.Leaving.TheVariants.{Left as AsLeft, Lost as AsLost}
 use Rattle.registry_core.specs.Shelves.{ComesWith, kept_after}
-use Rattle.registry_core.specs.Desks.{DeskState, Stays, Looks, Adds, IsSound}
+use Rattle.registry_core.specs.Desks.{connections_with, uses, Adds, IsSound}
 use Rattle.registry_core.proofs.Keeping.{said_after}
 use Rattle.ruled_history.specs.declared.board.View.{View}
-use Rattle.ruled_history.specs.declared.board.Stage.TheVariants.{Idle, Serves}
+use Rattle.ruled_history.specs.declared.board.Stage.TheVariants.{Idle}
 use Rattle.ruled_history.specs.Runs.{StartsWith, Has, times}
-use Rattle.ruled_history.specs.Views.{with_entries, adds, at_stage, sees, opened_after, dones_after, Knows}
+use Rattle.ruled_history.specs.Views.{with_entries, adds, at_stage, opened_after, dones_after, Knows}
 use Rattle.ruled_history.specs.Seats.{Seated, StandsAfter, IsServing, told_seated}
 use Rattle.ruled_history.proofs.Counts.{has_contained, contains_had, count_some}
 use Rattle.ruled_history.proofs.Histories.{goes}
@@ -64,24 +65,6 @@ abbrev pub knowing : {S : Type 0} → Seated S → View → Seated S
 knowing desk view = record { opening = desk.opening; metered = desk.metered; seat = record { registry = desk.seat.registry; knows = view } }
 
 module _ {S Item Held : Type 0} (kept : S → ℕ → Option Item) (held : S → Held) (desk : Seated S) (served : View) (serving : IsServing desk.seat.knows served) (more : StartsWith served.seen desk.seat.knows.seen) where
-  abbrev Told : View → DeskState Held
-  Told view = told_seated kept held (knowing desk view)
-
-  same : Told served ≡ Told (sees served.seen (at_stage (Serves serving.0) desk.seat.knows))
-  same = ap Told serving.1
-
-  pub turn_looks : Looks (told_seated kept held desk) (told_seated kept held (knowing desk (at_stage Idle served)))
-  turn_looks = record {
-    since = more.0;
-    history = more.1;
-    places = ap (λ (v : View). v.places) serving.1;
-    connections = ap (λ (v : View). v.connections) serving.1;
-    opened = ap (λ (v : View). v.opened) serving.1;
-    dones = ap (λ (v : View). v.dones) serving.1;
-    room = ap (λ (v : View). v.room) serving.1;
-    stays = record { project = refl; workers = refl; limit = refl; name = refl; metered = refl; first = ap (λ (v : View). v.first) serving.1; share = ap (λ (v : View). v.share) serving.1; kept = λ unit. refl; held = refl };
-  }
-
   pub turn_adds : (newest : Entry) (place : ℕ) → place ≡ length served.seen → goes (effect_of newest.act) ≤ served.opened → Adds (told_seated kept held desk) newest place (told_seated kept held (knowing desk (at_stage Idle (adds newest served))))
   turn_adds newest place is some_open =
       let opened : served.opened ≡ desk.seat.knows.opened = ap (λ (v : View). v.opened) serving.1 in
@@ -91,10 +74,10 @@ module _ {S Item Held : Type 0} (kept : S → ℕ → Option Item) (held : S →
         history = ap (λ (es : List Entry). es ++ newest ∷ []) more.1;
         place_is = is ∙ ap length more.1;
         places = ap₂ (λ (ps : List ℕ) (p : ℕ). ps ++ p ∷ []) (ap (λ (v : View). v.places) serving.1) (sym is);
-        connections = ap (λ (v : View). Rattle.registry_core.specs.Desks.connections_with (effect_of newest.act) newest.conn v.connections) serving.1;
+        connections = ap (λ (v : View). connections_with (effect_of newest.act) newest.conn v.connections) serving.1;
         opened = subst (λ (z : ℕ). ChangesOpen (effect_of newest.act) z (opened_after (effect_of newest.act) served.opened)) opened (opened_changes (effect_of newest.act) served.opened some_open);
         dones = subst (λ (z : ℕ). ChangesDone (effect_of newest.act) z (dones_after (effect_of newest.act) served.dones)) dones (dones_changes (effect_of newest.act) served.dones);
-        room = ap (λ (v : View). v.room - Rattle.registry_core.specs.Desks.uses (effect_of newest.act)) serving.1;
+        room = ap (λ (v : View). v.room - uses (effect_of newest.act)) serving.1;
         stays = record { project = refl; workers = refl; limit = refl; name = refl; metered = refl; first = ap (λ (v : View). v.first) serving.1; share = ap (λ (v : View). v.share) serving.1; kept = λ unit. refl; held = refl };
       }
 
@@ -127,12 +110,8 @@ module _ {S Item Held : Type 0} (kept : S → ℕ → Option Item) (held : S →
       said : Answered
       said = with_said newest (said_to book.ledger newest.conn newest.act)
 
-      or_true : (b c : Bool) → (b || (true || c)) ≡ true
-      or_true true c = refl
-      or_true false c = refl
-
       by : (unit : ℕ) (b : Bool) → stores unit said ≡ b → is_some (if stores unit said then item else kept book.shelf unit) ≡ (is_some (kept opening.shelf unit) || (stores unit said || is_stored (said_in book.ledger) unit))
-      by unit true is = rw is (there unit (and_parts (is_accepted said.said) (names (stored_unit newest.act) unit) is).1 ∙ sym (or_true (is_some (kept opening.shelf unit)) (is_stored (said_in book.ledger) unit)))
+      by unit true is = rw is (there unit (and_parts (is_accepted said.said) (names (stored_unit newest.act) unit) is).1 ∙ sym (or-true (is_some (kept opening.shelf unit))))
       by unit false is = rw is (stands.is_kept unit)
 
   -- an entry that comes with no item
@@ -141,12 +120,8 @@ module _ {S Item Held : Type 0} (kept : S → ℕ → Option Item) (held : S →
       (λ unit. ap (λ (s : S). kept s unit) same ∙ sym (ap (λ (b : Bool). if b then None else kept book.shelf unit) (never unit)))
       (λ unit is. absurd (true≢false (sym is ∙ ap (λ (o : Option ℕ). names o unit) none_stored)))
     where
-      and_false : (b : Bool) → (b && false) ≡ false
-      and_false true = refl
-      and_false false = refl
-
       never : (unit : ℕ) → stores unit (with_said newest (said_to book.ledger newest.conn newest.act)) ≡ false
-      never unit = ap (λ (o : Option ℕ). is_accepted (said_to book.ledger newest.conn newest.act) && names o unit) none_stored ∙ and_false (is_accepted (said_to book.ledger newest.conn newest.act))
+      never unit = ap (λ (o : Option ℕ). is_accepted (said_to book.ledger newest.conn newest.act) && names o unit) none_stored ∙ and-false (is_accepted (said_to book.ledger newest.conn newest.act))
 
   comes : (fits : ℕ → Item → Type 0) (o : Option ℕ) (item : Option Item) (unit : ℕ) → ComesWith fits o item → names o unit ≡ true → is_some item ≡ true
   comes fits (Some named) (Some item) unit with_item is = refl
@@ -163,21 +138,14 @@ pub stands_first : {S Item Held : Type 0} (kept : S → ℕ → Option Item) (he
 stands_first kept held book empty = record {
   is_ledger = ap (λ (es : List Entry). with_entries book.ledger es) empty;
   is_held = refl;
-  is_kept = λ unit. sym (ap (λ (es : List Entry). is_some (kept book.shelf unit) || is_stored (said_in (with_entries book.ledger es)) unit) empty ∙ or_false (is_some (kept book.shelf unit)));
+  is_kept = λ unit. sym (ap (λ (es : List Entry). is_some (kept book.shelf unit) || is_stored (said_in (with_entries book.ledger es)) unit) empty ∙ or-false (is_some (kept book.shelf unit)));
 }
-  where
-    or_false : (b : Bool) → (b || false) ≡ b
-    or_false true = refl
-    or_false false = refl
 
 -- ---- the same, where a desk's view changed by a turn
 
 module _ {S Item Held : Type 0} (kept : S → ℕ → Option Item) (held : S → Held) (before after : Seated S) (served : View) (serving : IsServing before.seat.knows served) (more : StartsWith served.seen before.seat.knows.seen) where
   pub told_adds : (newest : Entry) (place : ℕ) → place ≡ length served.seen → goes (effect_of newest.act) ≤ served.opened → after ≡ knowing before (at_stage Idle (adds newest served)) → Adds (told_seated kept held before) newest place (told_seated kept held after)
   told_adds newest place is some_open now = subst (λ (d : Seated S). Adds (told_seated kept held before) newest place (told_seated kept held d)) (sym now) (turn_adds kept held before served serving more newest place is some_open)
-
-  pub told_looks : after ≡ knowing before (at_stage Idle served) → Looks (told_seated kept held before) (told_seated kept held after)
-  told_looks now = subst (λ (d : Seated S). Looks (told_seated kept held before) (told_seated kept held d)) (sym now) (turn_looks kept held before served serving more)
 
 -- a connection goes with its act, which comes with no item
 pub leaving_goes : (how : Leaving) → effect_of (leaving how) ≡ Goes

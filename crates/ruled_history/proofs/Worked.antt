@@ -1,5 +1,5 @@
 -- What the worked examples use of desks, seats and the closed book.
-use Rattle.std.proofs.Common.{◌≡◌, inl, inr, ℕ, zero, suc, ◌<◌, ◌≤◌, false, true, Bool, List, [], ◌∷◌, ◌++◌, map, length, Option, Some, None, IsFalse, refl, sym, ap, subst, ◌∙◌, arith, length-append, append-nil}
+use Rattle.std.proofs.Common.{◌≡◌, inl, inr, ℕ, zero, suc, ◌<◌, ◌≤◌, false, true, Bool, List, [], ◌∷◌, ◌++◌, map, length, Option, Some, None, IsFalse, refl, sym, ap, subst, ◌∙◌, arith, length-append, append-nil, append_assoc}
 use Rattle.std.specs.Prelude.{nat_lt, if◌then◌else◌}
 use Rattle.std.proofs.lemmas.Option.{slice_get_within}
 use Rattle.std.proofs.lemmas.Bool.Decides.{nat_tests}
@@ -103,14 +103,10 @@ module _ {Held : Type 0} (before after : DeskState Held) where
     };
   }
 
-append_two : {A : Type 0} → (xs : List A) (x y : A) → (xs ++ x ∷ []) ++ y ∷ [] ≡ xs ++ x ∷ y ∷ []
-append_two [] x y = refl
-append_two (z ∷ xs) x y = ap (λ l. z ∷ l) (append_two xs x y)
-
 module _ {Held : Type 0} (first second third : DeskState Held) where
   pub hands_over : Entered 0 (Export (Some 0)) 2 first second → Entered 0 (Compiled (Some 0) false) 3 second third → HandsOver first third
   hands_over e c = record {
-    made = λ others m. subst (λ (all : List Placed). Made third.seen.entries third.places all) (append_two others (at 2 0 (Export (Some 0))) (at 3 0 (Compiled (Some 0) false)))
+    made = λ others m. subst (λ (all : List Placed). Made third.seen.entries third.places all) (append_assoc others (at 2 0 (Export (Some 0)) ∷ []) (at 3 0 (Compiled (Some 0) false) ∷ []))
         (made_more second third (entry 0 (Compiled (Some 0) false)) 3 (others ++ at 2 0 (Export (Some 0)) ∷ []) c.adds (made_more first second (entry 0 (Export (Some 0))) 2 others e.adds m));
     stays = stays_further first second third e.adds.stays c.adds.stays;
   }

@@ -139,7 +139,7 @@ joined left right =
 -- What holds of every seat: its history is legal, its own places stand in it, each once, and so do its connections.
 -- All entries of its connections stand at its places, and each entry at those but a Done is of one of its connections.
 -- It tells how many of its connections are open and how many of its entries are a Done, and has a worker for each. A
--- Done is of no connection.
+-- Done is of no connection. A seat without an entry has no connection.
 pub record Knows (opening : LedgerView) (view : View) : Type 0 where
   pub ledger : IsLedger (with_entries opening view.seen)
   pub heard : StartsWith view.seen view.heard
@@ -153,6 +153,14 @@ pub record Knows (opening : LedgerView) (view : View) : Type 0 where
   pub enough : view.opened + view.dones ≤ view.share
   pub of_nobody : All (λ newest. IsTrue (is_done newest.act) → newest.conn ≡ no_connection) view.seen
   pub numbered : (conn : ℕ) → Has conn view.connections → conn < no_connection
+  pub bare : view.places ≡ [] → view.connections ≡ []
+
+-- a seat that has no entry, no connection and no worker that is done
+pub record IsBare (view : View) : Type 0 where
+  pub places : view.places ≡ []
+  pub connections : view.connections ≡ []
+  pub opened : view.opened ≡ 0
+  pub dones : view.dones ≡ 0
 
 -- What a joined seat keeps of one of the two: it has seen all that it had seen, and in that history the entries of its
 -- connections stand at its places alone.

@@ -27,7 +27,7 @@ pub enum Stage {
 pub struct View {
     /// The history that it has seen.
     pub seen: LinkedList<Entry>,
-    /// What one of the two had seen of which it was joined, where that was less.
+    /// Of a joined seat, the shorter of the two histories that were seen before the join.
     pub heard: LinkedList<Entry>,
     /// The places of the entries that were made under its run.
     pub places: LinkedList<u32>,

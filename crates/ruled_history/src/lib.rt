@@ -15,6 +15,8 @@ pub use shared::SharedDesk;
 #[cfg(test)]
 mod examples;
 #[cfg(test)]
+mod ringing;
+#[cfg(test)]
 mod tests;
 #[cfg(test)]
 mod two_seats;

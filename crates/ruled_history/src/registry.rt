@@ -6,7 +6,7 @@ ghost use Rattle.ruled_history.specs.declared.board.Stage.TheVariants.{Idle};
 ghost use Rattle.ruled_history.specs.declared.board.View.{View};
 ghost use Rattle.ruled_history.specs.Runs.{StartsWith, AreAllPlaces};
 ghost use Rattle.ruled_history.specs.Seats.{StandsAfter, Sitting, first_room};
-ghost use Rattle.ruled_history.specs.Views.{first_view, rest_of, cut_off, joined, Knows, Keeps};
+ghost use Rattle.ruled_history.specs.Views.{first_view, rest_of, cut_off, joined, Knows, IsBare, Keeps};
 
 use crate::board::{About, Board, Cut, Cutting, Glue, Learn, Learning, Place, View};
 use atomic_table::{Badge, Table};
@@ -87,9 +87,11 @@ impl<S: Shelf + Drop> Registry<S> {
         requires bare { seat.knows.places ≡ [] }
         ensures first { result.0 ≡ record { registry = seat.registry; knows = rest_of share room seat.knows } }
         ensures second { result.1 ≡ record { registry = seat.registry; knows = cut_off share room seat.knows } }
+        ensures bare { IsBare result.0.knows × IsBare result.1.knows }
     {
         let Seat { badge } = seat;
         let mut place = badge.into_seat();
+        learn::<Brand, S>(&self.board, &mut place);
         let other = cut::<Brand, S>(&self.board, &mut place, share, room);
         (
             Seat {

@@ -1,5 +1,6 @@
 //! The worked examples, with memory enough.
 
+use crate::ringing::rings;
 use crate::two_seats::{fetches, two_seats};
 use crate::two_threads::{Told, two_threads};
 use registry_core::{Answer, Entry};
@@ -11,10 +12,9 @@ fn of(conn: u32, act: Act) -> Entry {
     Entry { conn, act }
 }
 
-#[test]
-fn two_seats_make_seven_entries(rt: HostRuntime) -> Result<(), Fail> {
-    let run = two_seats(&rt, rt.alloc()).ok_or("the places are as expected")?;
-    let entries = [
+/// The entries of both seats.
+fn seven_entries() -> [Entry; 7] {
+    [
         of(0, Act::Open),
         of(
             0,
@@ -46,10 +46,15 @@ fn two_seats_make_seven_entries(rt: HostRuntime) -> Result<(), Fail> {
                 name_only: false,
             },
         ),
-    ];
+    ]
+}
+
+#[test]
+fn two_seats_make_seven_entries(rt: HostRuntime) -> Result<(), Fail> {
+    let run = two_seats(&rt, rt.alloc()).ok_or("the places are as expected")?;
     assert!(rt; run.reported == Some(Answer::Done));
     assert!(rt; run.imported == Some(Answer::Path(0)));
-    assert!(rt; run.book.entries() == entries.as_slice());
+    assert!(rt; run.book.entries() == seven_entries().as_slice());
     Ok(())
 }
 
@@ -88,4 +93,9 @@ fn two_threads_make_204_entries(rt: HostRuntime) -> Result<(), Fail> {
 #[test]
 fn kept_items_are_fetched(rt: HostRuntime) {
     assert!(rt; fetches(&rt, rt.alloc()));
+}
+
+#[test]
+fn each_entry_rings_the_bell(rt: HostRuntime) {
+    assert!(rt; rings(&rt, rt.alloc()) == Some(4));
 }
