@@ -85,7 +85,3 @@ pub line_taken : (draft : Draft) (line : List ℕ) (words : Row) (result : Resul
 line_taken draft line words (Ok after) is h = (words, is, h)
 line_taken draft line words (Err faults.Fault) is h = λ other k. ap (next draft) (same_line line other words k is) ∙ h
 line_taken draft line words (Err faults.Memory) is h = tt
-
--- no draft is behind a line that is the canonical one of no words
-pub line_refused : (draft : Draft) (line : List ℕ) → HasWords None line → TakesLine (Err faults.Fault) draft line
-line_refused draft line none = λ words is. absurd (none words is)

@@ -64,25 +64,6 @@ pub deeper_by : (project : ProjectView) (origins : List Origin) (more depth : �
 deeper_by project origins zero depth = record { each = λ unit cmi e. rw zero-add e }
 deeper_by project origins (suc more) depth = record { each = λ unit cmi e. rw suc-add ((deeper project origins (more + depth)).each unit cmi ((deeper_by project origins more depth).each unit cmi e)) }
 
--- interfaces with those of one unit more
-abbrev pub with_unit : Interfaces → ℕ → Cmi → Interfaces
-with_unit has number cmi unit = cond (eqb unit number) (Some cmi) (has unit)
-
--- a unit that compiles over interfaces of a depth has its own one deeper
-pub table_step : (project : ProjectView) (origins : List Origin) (has : Interfaces) (depth number : ℕ) (cmi : Cmi) → Within has (at_depth project origins depth) → cmi_of (step project has number (slice_get origins number)) ≡ Some cmi
-    → Within (with_unit has number cmi) (at_depth project origins (suc depth))
-table_step project origins has depth number cmi w done = record { each = each }
-  where
-    each : (unit : ℕ) (found : Cmi) → with_unit has number cmi unit ≡ Some found → at_depth project origins (suc depth) unit ≡ Some found
-    each unit found e =
-        elim (cases_eq unit number) [
-          | inl same ↦
-              let here : at_depth project origins (suc depth) number ≡ Some cmi = step_within project has (at_depth project origins depth) w number (slice_get origins number) cmi done in
-              let is : Some cmi ≡ Some found = (rw (eq-eqb unit number same) at e) in
-              ap (at_depth project origins (suc depth)) same ∙ here ∙ is
-          | inr other ↦ (deeper project origins depth).each unit found (w.each unit found (rw (ne_eqb unit number other) at e))
-        ]
-
 -- where no step finishes another unit, the table has what any depth has
 pub table_whole : (project : ProjectView) (origins : List Origin) (has : Interfaces) → ((unit : ℕ) (cmi : Cmi) → cmi_of (step project has unit (slice_get origins unit)) ≡ Some cmi → has unit ≡ Some cmi)
     → (depth : ℕ) → Within (at_depth project origins depth) has

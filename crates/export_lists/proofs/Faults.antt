@@ -30,14 +30,6 @@ good_here imports k import e good before =
 pub no_bad : (unit : UnitOf) (cmis : List Cmi) (k : ℕ) → length unit.imports ≤ k → first_of (export_lines (imported unit cmis)) ≡ first_of (export_lines (drop k (imported unit cmis))) → None ≡ first_of (export_lines (imported unit cmis))
 no_bad unit cmis k le before = sym (before ∙ ap (λ l. first_of (export_lines l)) (none_left unit.imports cmis k le))
 
--- faults on lines are tried first, by their first line
-pub faulty_first : (reason : SourceReason) (lines : List ℕ) (rest : List Fault) (cmi : Cmi) (line : ℕ) → first_of lines ≡ Some line → unless_faulty (faults_on reason lines ++ rest) cmi ≡ Err (record { line = line; reason = reason })
-faulty_first reason [] rest cmi line e = absurd (cc)
-faulty_first reason (l ∷ lines) rest cmi line e = let same : l ≡ line = cc in ap (λ (n : ℕ). Err (record { line = n; reason = reason })) same
-
 pub none_faulty : (lines : List ℕ) → first_of lines ≡ None → lines ≡ []
 none_faulty [] e = refl
 none_faulty (l ∷ lines) e = absurd (cc)
-
-pub faulty_next : (reason : SourceReason) (lines : List ℕ) (rest : List Fault) → first_of lines ≡ None → faults_on reason lines ++ rest ≡ rest
-faulty_next reason lines rest e = ap (λ ls. faults_on reason ls ++ rest) (none_faulty lines e)

@@ -31,10 +31,6 @@ get_push (y ∷ xs) x (suc k) found e =
       | inr last ↦ inr (ap suc last.0, last.1)
     ]
 
--- no slots
-pub firsts_start : (project : ProjectView) (sources : List (List ℕ)) (built : List Cmi) → AreFirstSlots project sources built 0 []
-firsts_start project sources built = record { origins = []; are_so_many = refl; each = λ number origin e. absurd (cc); slots_are = refl }
-
 -- one slot more
 pub firsts_more : (project : ProjectView) (sources : List (List ℕ)) (built : List Cmi) (count : ℕ) (slots : List Slot) (slot : Slot) → AreFirstSlots project sources built count slots → IsFirstSlot project sources built count slot → AreFirstSlots project sources built (count + 1) (slots ++ slot ∷ [])
 firsts_more project sources built count slots slot are is = record {
@@ -69,9 +65,6 @@ built_more project number lt =
 
 pub built_next : (project : ProjectView) (number place one : ℕ) → number < unit_count project → place ≡ built_before project number → one ≡ cond (is_built project number) 1 0 → place + one ≡ built_before project (number + 1)
 built_next project number place one lt was is = (λ k. was k + is k) ∙ sym (built_more project number lt)
-
-pub built_all : (project : ProjectView) (number count : ℕ) → unit_count project ≤ number → count ≡ built_before project number → count ≡ built_count project
-built_all project number count le e = e ∙ ap (count_by (λ (u : Declared). u.built)) (take_all number project.units le)
 
 -- the interface of a built unit is there
 built_below : (next before all one : ℕ) → next ≡ before + one → one ≡ 1 → next ≤ all → before < all
@@ -138,10 +131,6 @@ source_slots project sources built number source text result lt count is item sa
       made_of = (is, text, slice_get_read sources (length sources) number source refl (omega arith) item ∙ ap Some (sym same), s.reads);
       slot_is = s.slot_is;
     }
-
--- the table has as many slots as there are units
-pub firsts_count : (project : ProjectView) (sources : List (List ℕ)) (built : List Cmi) (count : ℕ) (slots : List Slot) → AreFirstSlots project sources built count slots → length slots ≡ count
-firsts_count project sources built count slots are = ap length are.slots_are ∙ length-map are.origins first_slot ∙ are.are_so_many
 
 pub list_end : (project : ProjectView) (sources : List (List ℕ)) (built : List Cmi) (first old new last : List Slot) (outcomes : List Outcome) (len : ℕ) → length first ≡ len → old ≡ first → AreFirstSlots project sources built (unit_count project) first → LeadsTo project old new → left_count new ≡ 0
     → last ≡ take len (new ++ drop (length new) first) → outcomes ≡ filter_map outcome_in last → IsListing project sources built outcomes

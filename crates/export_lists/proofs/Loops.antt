@@ -4,7 +4,7 @@ use Rattle.std.specs.Prelude.{slice_get, zip, flat_map}
 use Rattle.std.specs.Borrow.{Bor}
 use Rattle.std.proofs.lemmas.Grind.{fold-append, flat_map-append}
 use Rattle.export_lists.specs.Entries.{Listed, with_entry, with_entries}
-use Rattle.std.proofs.lemmas.List.{take_all}
+use Rattle.std.proofs.lemmas.List.{take_all, append-nil}
 use Rattle.std.proofs.lemmas.Option.{slice_get_read}
 use Rattle.module_units.specs.declared.unit.Unit.{Unit as UnitOf}
 use Rattle.module_units.specs.declared.parts.Import.{Import as ImportOf}
@@ -42,15 +42,6 @@ lent_at [] k cmi e = absurd (cc)
 lent_at (b ∷ cmis) zero cmi e = let same : b ≡ cmi = cc in ap (λ c. Some c.now) same
 lent_at (b ∷ cmis) (suc k) cmi e = lent_at cmis k cmi e
 
--- one entry more
-pub entry_more : (before : List Listed) (xs : List Listed) (k : ℕ) (x : Listed) → slice_get xs k ≡ Some x → with_entries before (take (k + 1) xs) ≡ with_entry (with_entries before (take k xs)) x
-entry_more before xs k x e = ap (with_entries before) (taken xs k x e) ∙ fold-append with_entry before (take k xs) (x ∷ [])
-
--- a list of one
-one : {X : Type 0} (xs : List X) → xs ++ [] ≡ xs
-one [] = refl
-one (x ∷ xs) = ap (λ ys. x ∷ ys) (one xs)
-
 -- the entries of one item more
 pub entries_more : {X : Type 0} (f : X → List Listed) (before : List Listed) (xs : List X) (k : ℕ) (x : X) → slice_get xs k ≡ Some x
     → with_entries before (flat_map f (take (k + 1) xs)) ≡ with_entries (with_entries before (flat_map f (take k xs))) (f x)
@@ -58,7 +49,7 @@ entries_more f before xs k x e =
     ap (λ ys. with_entries before (flat_map f ys)) (taken xs k x e)
     ∙ ap (with_entries before) (flat_map-append f (take k xs) (x ∷ []))
     ∙ fold-append with_entry before (flat_map f (take k xs)) (f x ++ [])
-    ∙ ap (with_entries (with_entries before (flat_map f (take k xs)))) (one (f x))
+    ∙ ap (with_entries (with_entries before (flat_map f (take k xs)))) (append-nil (f x))
 
 -- the import at a place, with its interface
 pub import_at : (unit : UnitOf) (cmis : List (Bor Cmi)) (k : ℕ) (import : ImportOf) (cmi : Bor Cmi) → length cmis ≡ length unit.imports → k < length cmis → slice_get unit.imports k ≡ Some import → cmi ≡ get_or cmis k cmi

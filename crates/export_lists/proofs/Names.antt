@@ -5,7 +5,7 @@ use Rattle.std.specs.List.{list_any}
 use Rattle.std.specs.Str.{bytes_eq}
 use Rattle.std.specs.Borrow.{Bor}
 use Rattle.std.proofs.lemmas.Bool.{cases_Bool}
-use Rattle.std.proofs.lemmas.List.{map-append}
+use Rattle.std.proofs.lemmas.List.{map-append, append-nil}
 use Rattle.std.proofs.lemmas.List.Folds.{list_any-append}
 use Rattle.std.proofs.lemmas.Grind.{flat_map-append}
 use Rattle.std.proofs.lemmas.Slice.Eq.{bytes_eq-Decides}
@@ -71,15 +71,11 @@ added keys new key known is h = by_test (list_any (λ other. bytes_eq key.now ot
         let same : new ≡ keys ++ key ∷ [] = is ∙ ap (λ (b : Bool). if b then keys else keys ++ key ∷ []) e in
         moved_names (ap (map (λ (k : Bor (List ℕ)). k.now)) same ∙ map-append (λ (k : Bor (List ℕ)). k.now) keys (key ∷ [])) (goes_last (map (λ k. k.now) keys) known key.now h)
 
-one : {X : Type 0} (xs : List X) → xs ++ [] ≡ xs
-one [] = refl
-one (x ∷ xs) = ap (λ ys. x ∷ ys) (one xs)
-
 -- one item more
 flat_more : {X : Type 0} (f : X → List (List ℕ)) (known : List (List ℕ)) (xs : List X) (k : ℕ) (x : X) → slice_get xs k ≡ Some x → (known ++ flat_map f (take k xs)) ++ f x ≡ known ++ flat_map f (take (k + 1) xs)
 flat_more f known xs k x e =
     append_assoc known (flat_map f (take k xs)) (f x)
-    ∙ ap (λ ys. known ++ ys) (ap (λ ys. flat_map f (take k xs) ++ ys) (sym (one (f x))) ∙ sym (flat_map-append f (take k xs) (x ∷ [])) ∙ ap (flat_map f) (sym (taken xs k x e)))
+    ∙ ap (λ ys. known ++ ys) (ap (λ ys. flat_map f (take k xs) ++ ys) (sym (append-nil (f x))) ∙ sym (flat_map-append f (take k xs) (x ∷ [])) ∙ ap (flat_map f) (sym (taken xs k x e)))
 
 pub listed_more : (entries : List Listed) (k : ℕ) (entry : Listed) (known names new : List (List ℕ)) → k < length entries → entry ≡ get_or entries k entry
     → Knows names (known ++ types_in (take k entries)) → ((other : List (List ℕ)) → Knows names other → Knows new (other ++ type_name entry.kind entry.name))
@@ -95,7 +91,7 @@ pub more_types : {X : Type 0} (f : X → List Listed) (names new : List (List �
     → Knows names (types_in (flat_map f (take k xs))) → ((known : List (List ℕ)) → Knows names known → Knows new (known ++ types_in listed)) → Knows new (types_in (flat_map f (take (k + 1) xs)))
 more_types f names new xs k x listed e same was adds =
     moved_known
-    (ap (λ l. types_in (flat_map f (take k xs)) ++ types_in l) (same ∙ sym (one (f x)))
+    (ap (λ l. types_in (flat_map f (take k xs)) ++ types_in l) (same ∙ sym (append-nil (f x)))
     ∙ sym (types_in_append (flat_map f (take k xs)) (f x ++ []))
     ∙ ap types_in (sym (flat_map-append f (take k xs) (x ∷ [])) ∙ ap (flat_map f) (sym (taken xs k x e))))
     (adds (types_in (flat_map f (take k xs))) was)

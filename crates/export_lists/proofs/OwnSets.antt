@@ -1,25 +1,12 @@
--- Entries that are read, and the keys of their set.
+-- Entries that are read, and one more.
 use Rattle.std.proofs.Common.{◌≡◌, ◌<◌, Bool, true, false, not, ◌&&◌, List, [], ◌∷◌, ◌++◌, length, map, Some, None, if◌then◌else◌, ap, sym, ◌∙◌, refl}
 use Rattle.std.specs.Prelude.{nat_lt}
 use Rattle.std.specs.List.{list_any}
 use Rattle.std.proofs.lemmas.Bool.{lt-ltb}
-use Rattle.export_lists.specs.declared.distinct.OwnKey.{OwnKey}
 use Rattle.export_lists.specs.Entries.{Listed, is_same}
-use Rattle.export_lists.specs.Keys.{key_of}
-use Rattle.export_lists.specs.OwnKeys.{seen_own}
 use Rattle.export_lists.specs.Compiling.{most_names}
 use Rattle.export_lists.specs.CmiTexts.{is_good_entry}
 use Rattle.export_lists.specs.Drafts.{added}
-use Rattle.export_lists.proofs.Sets.{any_map, same_parts}
-
--- a key is there exactly where its entry is
-pub own_is_there : (keys : List OwnKey) (entries : List Listed) (key : OwnKey) (entry : Listed) → map seen_own keys ≡ map key_of entries → seen_own key ≡ key_of entry
-    → list_any (λ other. same_parts (seen_own key) (seen_own other)) keys ≡ list_any (is_same entry) entries
-own_is_there keys entries key entry same e =
-    any_map seen_own (same_parts (seen_own key)) keys
-    ∙ ap (list_any (same_parts (seen_own key))) same
-    ∙ ap (λ p. list_any (same_parts p) (map key_of entries)) e
-    ∙ sym (any_map key_of (same_parts (key_of entry)) entries)
 
 none_there : (good room : Bool) (entries : List Listed) → (if good && (room && not true) then Some entries else None) ≡ None
 none_there true true entries = refl

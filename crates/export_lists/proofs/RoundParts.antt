@@ -58,9 +58,6 @@ pub record IsPart (project : ProjectView) (old now : List Slot) (place : ℕ) (c
   pub leads : LeadsTo project old now
   pub changes : PartChanges changed project old now place
 
-pub part_start : (project : ProjectView) (slots : List Slot) → IsPart project slots slots 0 false
-part_start project slots = record { leads = leads_same project slots; changes = (refl, λ number below. absurd (omega arith)) }
-
 -- no more are left than before
 no_more : (project : ProjectView) (old now : List Slot) (place : ℕ) (changed : Bool) → PartChanges changed project old now place → left_count now ≤ left_count old
 no_more project old now place true c = omega arith
@@ -151,15 +148,6 @@ pub record AreRounds (project : ProjectView) (old now : List Slot) (rounds : ℕ
 pub rounds_start : (project : ProjectView) (slots : List Slot) → AreRounds project slots slots 0
 rounds_start project slots = record { leads = leads_same project slots; few = (let b : left_count slots ≤ length slots = left_bound slots in omega arith) }
 
-pub rounds_more : (project : ProjectView) (old now new : List Slot) (rounds : ℕ) (changed : Bool) → changed ≡ true → AreRounds project old now rounds → IsRound project now new changed → AreRounds project old new (rounds + 1)
-rounds_more project old now new rounds changed is are r = record {
-  leads = leads_on project old now new are.leads r.leads;
-  few = (let fewer : left_count new < left_count now = subst (λ b. Changes b project now new) is r.changes in let f = are.few in omega arith);
-}
-
-pub rounds_stuck : (project : ProjectView) (now new : List Slot) (changed : Bool) → changed ≡ false → IsRound project now new changed → IsStuck project new
-rounds_stuck project now new changed is r = subst (λ b. Changes b project now new) is r.changes
-
 pub rounds_all : (project : ProjectView) (old now : List Slot) (rounds : ℕ) → length old ≤ rounds → AreRounds project old now rounds → IsStuck project now
 rounds_all project old now rounds all are = none_left_stuck project now (let f = are.few in omega arith)
 
@@ -168,9 +156,6 @@ pub record IsEnd (project : ProjectView) (old now : List Slot) (place : ℕ) : T
   pub leads : LeadsTo project old now
   pub stuck : IsStuck project now
   pub over : (number : ℕ) (unit : UnitOf) → number < place → slice_get now number ≡ Some (Left unit) → ⊥
-
-pub end_start : (project : ProjectView) (slots : List Slot) → IsStuck project slots → IsEnd project slots slots 0
-end_start project slots stuck = record { leads = leads_same project slots; stuck = stuck; over = λ number unit below is. absurd (omega arith) }
 
 -- the slot that is left, and the first import that has no interface
 pub record Lacks (project : ProjectView) (slots : List Slot) (number : ℕ) (outcome : Outcome) : Type 0 where

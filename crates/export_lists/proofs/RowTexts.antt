@@ -87,10 +87,6 @@ same_line line words other h k =
     let e : canonical_text words false ++ newline ∷ [] ≡ canonical_text other false ++ newline ∷ [] = sym (canonical_line_is words false) ∙ sym h.same ∙ k.same ∙ canonical_line_is other false in
     same_row words other h.row k.row (parted (canonical_text words false) (canonical_text other false) [] [] (clean_row words) (clean_row other) e).0
 
--- the text that a line of words is
-pub line_text : (line : List ℕ) (words : Row) → Clean line → IsLine line words → line ≡ canonical_text words false
-line_text line words clean h = (parted line (canonical_text words false) [] [] clean (clean_row words) (h.same ∙ canonical_line_is words false)).0
-
 -- What stands behind rows in others that begin so.
 pub record Behind (rows others : List Row) (rest : List ℕ) : Type 0 where
   pub more : List Row

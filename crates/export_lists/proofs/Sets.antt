@@ -2,9 +2,8 @@
 use Rattle.std.proofs.Common.{◌≡◌, Bool, true, false, ◌&&◌, ◌||◌, ◌==◌, List, [], ◌∷◌, ◌++◌, map, if◌then◌else◌, ap, sym, ◌∙◌, refl}
 use Rattle.std.specs.List.{list_any}
 use Rattle.std.specs.Str.{bytes_eq}
-use Rattle.export_lists.specs.declared.entries.Key.{Key}
 use Rattle.export_lists.specs.Entries.{Listed, is_same, with_entry}
-use Rattle.export_lists.specs.Keys.{Parts, seen_key, key_of}
+use Rattle.export_lists.specs.Keys.{Parts, key_of}
 
 -- a test of what items stand for
 pub any_map : {K P : Type 0} (part : K → P) (test : P → Bool) (items : List K) → list_any (λ k. test (part k)) items ≡ list_any test (map part items)
@@ -15,12 +14,12 @@ any_map part test (k ∷ items) = ap (λ b. test (part k) || b) (any_map part te
 abbrev pub same_parts : Parts → Parts → Bool
 same_parts p q = p.0 == q.0 && (bytes_eq p.1 q.1 && bytes_eq p.2 q.2)
 
--- a key is there exactly where its entry is
-pub key_is_there : (keys : List Key) (entries : List Listed) (key : Key) (entry : Listed) → map seen_key keys ≡ map key_of entries → seen_key key ≡ key_of entry
-    → list_any (λ other. same_parts (seen_key key) (seen_key other)) keys ≡ list_any (is_same entry) entries
-key_is_there keys entries key entry same e =
-    any_map seen_key (same_parts (seen_key key)) keys
-    ∙ ap (list_any (same_parts (seen_key key))) same
+-- a key is there exactly where its entry is, by what keys tell
+pub key_is_there : {K : Type 0} (tells : K → Parts) (keys : List K) (entries : List Listed) (key : K) (entry : Listed) → map tells keys ≡ map key_of entries → tells key ≡ key_of entry
+    → list_any (λ other. same_parts (tells key) (tells other)) keys ≡ list_any (is_same entry) entries
+key_is_there tells keys entries key entry same e =
+    any_map tells (same_parts (tells key)) keys
+    ∙ ap (list_any (same_parts (tells key))) same
     ∙ ap (λ p. list_any (same_parts p) (map key_of entries)) e
     ∙ sym (any_map key_of (same_parts (key_of entry)) entries)
 

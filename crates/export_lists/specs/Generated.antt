@@ -4,10 +4,7 @@ use Rattle.std.specs.List.{list_any}
 use Rattle.cody_words.specs.Octets.{newline}
 use Rattle.export_lists.specs.Words.{line_of}
 pub use Rattle.export_lists.specs.declared.generated.Generated.{Generated}
-
--- an import of a generated unit: the number of the imported unit, and whether the import is exported
-abbrev pub Link : Type 0
-Link = ℕ × Bool
+use Rattle.export_lists.specs.declared.draws.Link.{Link}
 
 -- the number that follows in the sequence of draws
 abbrev pub following : ℕ → ℕ
@@ -19,11 +16,11 @@ drawn state bound = state / 65536 % bound
 
 -- whether the unit is imported by one of these links
 abbrev pub is_linked : List Link → ℕ → Bool
-is_linked links unit = list_any (λ link. link.0 == unit) links
+is_linked links unit = list_any (λ link. link.unit == unit) links
 
 -- with a link to the unit, unless there is one
 abbrev pub with_link : List Link → ℕ → Bool → List Link
-with_link links unit exported = if is_linked links unit then links else links ++ (unit, exported) ∷ []
+with_link links unit exported = if is_linked links unit then links else links ++ record { unit = unit; exported = exported } ∷ []
 
 -- links, and the number of the sequence behind them
 pub record Drawing : Type 0 where
@@ -68,16 +65,16 @@ export_word false = []
 
 -- the line of an import
 abbrev pub import_line : Link → List ℕ
-import_line link = export_word link.1 ++ numbered (codes "import g") link.0 ++ ended (codes ";")
+import_line link = export_word link.exported ++ numbered (codes "import g") link.unit ++ ended (codes ";")
 
 -- parameters behind others
 abbrev pub further_parameters : List Link → List ℕ
-further_parameters links = flat_map (λ link. numbered (codes ", S") link.0) links
+further_parameters links = flat_map (λ link. numbered (codes ", S") link.unit) links
 
 -- the parameters of a function, one for each import
 abbrev pub parameters : List Link → List ℕ
 parameters [] = []
-parameters (link ∷ links) = numbered (codes "S") link.0 ++ further_parameters links
+parameters (link ∷ links) = numbered (codes "S") link.unit ++ further_parameters links
 
 -- the line of the module declaration
 abbrev pub head_of : ℕ → List ℕ

@@ -58,7 +58,7 @@ impl Cmi {
     /// The text of the interface: the lines `modmap-cmi 1`, `unit NAME interface` or
     /// `unit NAME implementation`, `export KIND NAME OWNER` for each entry of the exports,
     /// `inner KIND NAME OWNER` for each entry of the view, and `end`. Words are in canonical writing. The
-    /// text is this project's own.
+    /// text is this project's own. `Memory` may come for any interface.
     pub fn write(&self, alloc: Global) -> Result<Bytes, Memory>
         ensures { IfOk result (λ text. text ≡ cmi_text self.now) }
     {

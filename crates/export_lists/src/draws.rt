@@ -7,8 +7,14 @@ ghost use Rattle.export_lists.specs.Drawings.{seen};
 use mm_outside::Memory;
 use std::alloc::Global;
 
-/// An import of a generated unit: the number of the imported unit, and whether the import is exported.
-pub(crate) type Link = (u32, bool);
+/// An import of a generated unit.
+#[derive(Clone, Copy)]
+pub(crate) struct Link {
+    /// The number of the imported unit.
+    pub(crate) unit: u32,
+    /// Whether the import is exported.
+    pub(crate) exported: bool,
+}
 
 /// The number that follows in the sequence of draws.
 fn following(state: u32) -> u32
@@ -21,7 +27,7 @@ fn following(state: u32) -> u32
 fn is_linked(links: &[Link], unit: u32) -> bool
     ensures { result ≡ is_linked links.now unit }
 {
-    links.iter().any(|link| link.0 == unit)
+    links.iter().any(|link| link.unit == unit)
 }
 
 /// Adds a link to the unit, unless there is one.
@@ -31,7 +37,7 @@ fn add_link(links: &mut Vec<Link>, unit: u32, exported: bool) -> Result<(), Memo
     if is_linked(links, unit) {
         return Ok(());
     }
-    links.push((unit, exported))?;
+    links.push(Link { unit, exported })?;
     Ok(())
 }
 

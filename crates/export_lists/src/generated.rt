@@ -44,8 +44,8 @@ fn export_word(exported: bool) -> &'static [u8]
 fn append_import(alloc: Global, link: Link, text: &mut Text) -> Result<(), Memory>
     ensures { OnOk result (text.new ≡ text.old ++ import_line link) }
 {
-    text.extend(export_word(link.1))?;
-    append_numbered(alloc, b"import g", link.0, text)?;
+    text.extend(export_word(link.exported))?;
+    append_numbered(alloc, b"import g", link.unit, text)?;
     text.extend(b";\n")?;
     Ok(())
 }
@@ -60,12 +60,12 @@ fn append_imports(alloc: Global, links: &[Link], text: &mut Text) -> Result<(), 
     Ok(())
 }
 
-/// Appends a parameter behind others.
+/// Appends parameters behind another.
 fn append_further(alloc: Global, links: &[Link], text: &mut Text) -> Result<(), Memory>
     ensures { OnOk result (text.new ≡ text.old ++ further_parameters links.now) }
 {
     for link in links {
-        append_numbered(alloc, b", S", link.0, text)?;
+        append_numbered(alloc, b", S", link.unit, text)?;
     }
     Ok(())
 }
@@ -77,7 +77,7 @@ fn append_parameters(alloc: Global, links: &[Link], text: &mut Text) -> Result<(
     match links {
         [] => Ok(()),
         [link, others @ ..] => {
-            append_numbered(alloc, b"S", link.0, text)?;
+            append_numbered(alloc, b"S", link.unit, text)?;
             append_further(alloc, others, text)
         }
     }
@@ -203,7 +203,8 @@ fn project_of(alloc: Global, folder: &[u8], units: u32) -> Result<Text, Memory>
 ///
 /// Unit I is the module `gI` with the source `FOLDER/uI.cc`. It exports a struct `SI` and a function `fI`
 /// with one parameter for each import, and imports up to three of the units before it, of which each is
-/// exported or not. The projects are this project's own.
+/// exported or not. The projects are this project's own. There are at most 2,147,483,648 units, and `Memory`
+/// may come for any number of them.
 pub fn generate(alloc: Global, folder: &[u8], units: u32, seed: u32) -> Result<Generated, Memory>
     requires { units ≤ 2147483648 }
     ensures { IfOk result (λ project. project ≡ generated folder.now units seed) }

@@ -26,6 +26,8 @@ mod entries;
 mod generated;
 mod grammar;
 mod laws;
+#[cfg(test)]
+mod limit_tests;
 mod lines;
 mod listed;
 mod listing;

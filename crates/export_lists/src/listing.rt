@@ -121,7 +121,7 @@ fn append_outcome(
 }
 
 impl Listing {
-    /// What became of a unit.
+    /// What became of the unit of this number, counted from 0.
     pub fn outcome(&self, unit: u32) -> &Outcome
         requires { unit < length self.now }
         ensures { slice_get self.now unit ≡ Some result.now }
@@ -133,6 +133,8 @@ impl Listing {
     /// where it was built before, and then `name KIND NAME OWNER` for each of the COUNT entries of its
     /// exports; `failed IDENT import NAME`; or `failed IDENT line LINE REASON`. Words are in canonical
     /// writing. The report is this project's own.
+    ///
+    /// The project is the one that was listed. `Memory` may come for any project.
     pub fn write(&self, alloc: Global, project: &Project) -> Result<Bytes, Memory>
         requires { length self.now ≡ unit_count project.now }
         ensures { IfOk result (λ text. text ≡ report project.now self.now) }

@@ -80,8 +80,230 @@ plain e.cc
 end
 ";
 
-/// Sources of such a project, and the report on it.
-type Row = ([&'static [u8]; 4], &'static [u8]);
+/// Sources of a project of four units, and the report on it.
+#[derive(Clone, Copy)]
+struct Row {
+    /// The sources, in the order of the project.
+    sources: [&'static [u8]; 4],
+    /// The report.
+    report: &'static [u8],
+}
+
+/// Imports of units that stand behind, of units that failed, and of units that aren't declared.
+const IMPORTS: [Row; 4] = [
+    Row {
+        sources: [
+            b"export module a; export import b;",
+            b"export module b; export import c;",
+            b"export module c; export struct S;",
+            b"import a; S x;",
+        ],
+        report: b"ok a.cc 1
+name struct S c
+ok b.cc 1
+name struct S c
+ok c.cc 1
+name struct S c
+ok e.cc 0
+",
+    },
+    Row {
+        sources: [
+            b"export module a; import z; import y;",
+            b"export module b; import :p;",
+            b"export module c; import b;",
+            b"int x; T y;",
+        ],
+        report: b"failed a.cc import z
+failed b.cc import 'b:p'
+failed c.cc import b
+failed e.cc line 1 'unknown type'
+",
+    },
+    Row {
+        sources: [
+            b"export module a; export struct A; export A f(A);",
+            b"export module b; import a; export A g();",
+            b"export module c; import b;\nexport A h();",
+            b"import a;\nimport b;\n\nB x;",
+        ],
+        report: b"ok a.cc 2
+name struct A a
+name function f a
+ok b.cc 1
+name function g b
+failed c.cc line 2 'unknown type'
+failed e.cc line 4 'unknown type'
+",
+    },
+    Row {
+        sources: [
+            b"export module a; export struct A; export class A2; export int n;",
+            b"export module b; export import a; import c; export import a;",
+            b"export module c; export import a; export using C = A;",
+            b"import c; import b; C f(A, A2*);",
+        ],
+        report: b"ok a.cc 3
+name struct A a
+name class A2 a
+name variable n a
+ok b.cc 3
+name struct A a
+name class A2 a
+name variable n a
+ok c.cc 4
+name alias C c
+name struct A a
+name class A2 a
+name variable n a
+ok e.cc 0
+",
+    },
+];
+
+/// Imports that lead round in a ring of one, two and three units.
+const RINGS: [Row; 3] = [
+    Row {
+        sources: [
+            b"export module a; import a;",
+            b"export module b;",
+            b"export module c;",
+            b"import b; import a; import z;",
+        ],
+        report: b"failed a.cc import a
+ok b.cc 0
+ok c.cc 0
+failed e.cc import a
+",
+    },
+    Row {
+        sources: [
+            b"export module a; import b;",
+            b"export module b; import a;",
+            b"export module c;",
+            b"",
+        ],
+        report: b"failed a.cc import b
+failed b.cc import a
+ok c.cc 0
+ok e.cc 0
+",
+    },
+    Row {
+        sources: [
+            b"export module a; import b;",
+            b"export module b; import c;",
+            b"export module c; import a;",
+            b"import c;",
+        ],
+        report: b"failed a.cc import b
+failed b.cc import c
+failed c.cc import a
+failed e.cc import c
+",
+    },
+];
+
+/// Faults of sources, before those of their imports, and those before unknown types.
+const FAULTS: [Row; 2] = [
+    Row {
+        sources: [
+            b"export module a;",
+            b"\nexport module a;",
+            b"export module c; struct S;",
+            b"int",
+        ],
+        report: b"ok a.cc 0
+failed b.cc line 2 'unit differs from project'
+ok c.cc 0
+failed e.cc line 1 syntax
+",
+    },
+    Row {
+        sources: [
+            b"export module a; import z; int x, y;",
+            b"export module b; import z;\nint x; struct x;",
+            b"export module c; import z; T x;",
+            b"import z;\n\n\"",
+        ],
+        report: b"failed a.cc line 1 syntax
+failed b.cc line 2 'duplicate name'
+failed c.cc import z
+failed e.cc line 3 'unclosed string'
+",
+    },
+];
+
+/// A project with a module in two parts and a module above it.
+const PARTS: &[u8] = b"modmap-project 1
+repo gcm.cache
+module n n.cc
+module m m.cc
+module m:q q.cc
+module m:p p.cc
+end
+";
+
+/// An exported partition that is no interface, names that stay in their module, a ring of a module and its
+/// partition, and an import of another module's partition.
+const IN_PARTS: [Row; 4] = [
+    Row {
+        sources: [
+            b"export module n; import m;",
+            b"export module m;\nexport import :q;",
+            b"module m:q;",
+            b"export module m:p; import m;",
+        ],
+        report: b"failed n.cc import m
+failed m.cc line 2 'exported implementation unit'
+ok q.cc 0
+failed p.cc import m
+",
+    },
+    Row {
+        sources: [
+            b"export module n; import m; Q f();",
+            b"export module m; import :p; Q f(I); export P g();",
+            b"module m:q; struct Q; struct R;",
+            b"export module m:p; import :q; export struct P; struct I; R f();",
+        ],
+        report: b"failed n.cc line 1 'unknown type'
+ok m.cc 1
+name function g m
+ok q.cc 0
+ok p.cc 1
+name struct P m
+",
+    },
+    Row {
+        sources: [
+            b"export module n; import m;",
+            b"export module m; import :q; import :p;",
+            b"module m:q;",
+            b"export module m:p; import m;",
+        ],
+        report: b"failed n.cc import m
+failed m.cc import 'm:p'
+ok q.cc 0
+failed p.cc import m
+",
+    },
+    Row {
+        sources: [
+            b"export module n; import m; import :q;",
+            b"export module m; export import :p;",
+            b"module m:q; import m; P f();",
+            b"export module m:p; export using P = int;",
+        ],
+        report: b"failed n.cc import 'n:q'
+ok m.cc 1
+name alias P m
+ok q.cc 0
+ok p.cc 1
+name alias P m
+",
+    },
+];
 
 /// The texts of these sources.
 fn texts(alloc: Global, sources: &[&[u8]]) -> Option<Vec<Text>> {
@@ -129,6 +351,16 @@ fn reports_of(alloc: Global, project: &[u8], sources: &[&[u8]], report: &[u8]) -
     }
     let project = Project::read(alloc, project).ok()?;
     reports(alloc, &project, sources, &[], report)
+}
+
+/// The report of the first row that isn't the one on its sources, if there is one.
+fn first_wrong(alloc: Global, project: &[u8], rows: &[Row]) -> Option<&'static [u8]> {
+    for row in rows {
+        if reports_of(alloc, project, &row.sources, row.report) != Some(true) {
+            return Some(row.report);
+        }
+    }
+    None
 }
 
 /// The interface of a module with one struct, which was built before.
@@ -192,117 +424,14 @@ fn the_report_on_the_worked_project(rt: HostRuntime) {
 
 #[test]
 fn units_above_and_below(rt: HostRuntime) {
-    let table: [Row; 7] = [
-        (
-            [
-                b"export module a; export import b;",
-                b"export module b; export import c;",
-                b"export module c; export struct S;",
-                b"import a; S x;",
-            ],
-            b"ok a.cc 1\nname struct S c\nok b.cc 1\nname struct S c\nok c.cc 1\nname struct S c\nok e.cc 0\n",
-        ),
-        (
-            [
-                b"export module a; import a;",
-                b"export module b;",
-                b"export module c;",
-                b"import b; import a; import z;",
-            ],
-            b"failed a.cc import a\nok b.cc 0\nok c.cc 0\nfailed e.cc import a\n",
-        ),
-        (
-            [
-                b"export module a; import b;",
-                b"export module b; import a;",
-                b"export module c;",
-                b"",
-            ],
-            b"failed a.cc import b\nfailed b.cc import a\nok c.cc 0\nok e.cc 0\n",
-        ),
-        (
-            [
-                b"export module a; import b;",
-                b"export module b; import c;",
-                b"export module c; import a;",
-                b"import c;",
-            ],
-            b"failed a.cc import b\nfailed b.cc import c\nfailed c.cc import a\nfailed e.cc import c\n",
-        ),
-        (
-            [
-                b"export module a; import z; import y;",
-                b"export module b; import :p;",
-                b"export module c; import b;",
-                b"int x; T y;",
-            ],
-            b"failed a.cc import z\nfailed b.cc import 'b:p'\nfailed c.cc import b\nfailed e.cc line 1 'unknown type'\n",
-        ),
-        (
-            [
-                b"export module a;",
-                b"\nexport module a;",
-                b"export module c; struct S;",
-                b"int",
-            ],
-            b"ok a.cc 0\nfailed b.cc line 2 'unit differs from project'\nok c.cc 0\nfailed e.cc line 1 syntax\n",
-        ),
-        (
-            [
-                b"export module a; export struct A; export A f(A);",
-                b"export module b; import a; export A g();",
-                b"export module c; import b;\nexport A h();",
-                b"import a;\nimport b;\n\nB x;",
-            ],
-            b"ok a.cc 2\nname struct A a\nname function f a\nok b.cc 1\nname function g b\nfailed c.cc line 2 'unknown type'\nfailed e.cc line 4 'unknown type'\n",
-        ),
-    ];
-    for (sources, report) in table {
-        assert!(rt;
-            reports_of(rt.alloc(), ABC, &sources, report) == Some(true),
-            "{report:?}"
-        );
-    }
+    assert_eq!(rt; first_wrong(rt.alloc(), ABC, &IMPORTS), None);
+    assert_eq!(rt; first_wrong(rt.alloc(), ABC, &RINGS), None);
+    assert_eq!(rt; first_wrong(rt.alloc(), ABC, &FAULTS), None);
 }
-
-/// A project with a module in two parts and a module above it.
-const PARTS: &[u8] = b"modmap-project 1
-repo gcm.cache
-module n n.cc
-module m m.cc
-module m:q q.cc
-module m:p p.cc
-end
-";
 
 #[test]
 fn units_of_a_module_in_parts(rt: HostRuntime) {
-    let table: [Row; 2] = [
-        (
-            [
-                b"export module n; import m;",
-                b"export module m;\nexport import :q;",
-                b"module m:q;",
-                b"export module m:p; import m;",
-            ],
-            b"failed n.cc import m\nfailed m.cc line 2 'exported implementation unit'\nok q.cc 0\nfailed p.cc import m\n",
-        ),
-        (
-            [
-                b"export module n; import m; Q f();",
-                b"export module m; import :p; Q f(I); export P g();",
-                b"module m:q; struct Q; struct R;",
-                b"export module m:p; import :q; export struct P; struct I; R f();",
-            ],
-            b"failed n.cc line 1 'unknown type'\nok m.cc 1\nname function g m\nok q.cc 0\nok p.cc 1\nname struct P m\n",
-        ),
-    ];
-    for (sources, report) in table {
-        assert!(rt;
-            reports_of(rt.alloc(), PARTS, &sources, report) == Some(true),
-            "{report:?}"
-        );
-    }
+    assert_eq!(rt; first_wrong(rt.alloc(), PARTS, &IN_PARTS), None);
 }
 
 #[test]

@@ -87,7 +87,7 @@ fn project_fault(
 /// declaration, or on line 1 without one, where the unit isn't what the project declares: a module or a
 /// partition of the declared name, for a header unit a unit without a module declaration, and for a
 /// plain unit that or an implementation unit. `ImportInHeader` is told on the line of the first import
-/// of a header unit. `Memory` may come for any source.
+/// of a header unit. `Memory` may come for any source. The text has at most 2,147,483,648 octets.
 pub fn unit_for(
     alloc: Global,
     project: &Project,
