@@ -1,6 +1,5 @@
 -- What answers come to where blocks, places and histories are put together.
 use Rattle.std.proofs.Common.{◌≡◌, ℕ, suc, ◌+◌, ◌<◌, ◌==◌, ◌&&◌, ◌||◌, Bool, true, false, cond, List, [], ◌∷◌, ◌++◌, length, take, drop, Option, Some, None, refl, sym, ap, subst, ◌∙◌, append_assoc, arith}
-use Rattle.std.proofs.lemmas.Bool.Decides.{nat_tests}
 use Rattle.std.specs.List.{list_any}
 use Rattle.std.specs.Option.{option_map}
 use Rattle.std.proofs.lemmas.List.{append-nil, length-append, take-append-drop, drop-append-le, length-drop, length-take-le, length-map, map-append}
@@ -256,11 +255,6 @@ own_answers-push project entered block text more come next =
     ∙ ap (λ (all : List ℕ). Some (text ++ all)) (append-nil more)
 
 -- ---- where a write stopped
-
--- a text that is no longer than another is no longer than that with more behind it
-pub no_longer : (answer : Option (List ℕ)) (written more : List ℕ) → is_longer answer written ≡ false → is_longer answer (written ++ more) ≡ false
-no_longer None written more e = e
-no_longer (Some text) written more e = grind (arith, nat_tests, length-append written more)
 
 -- Blocks behind others, of which none before the last one has answers longer than what was written, stop the list there.
 pub stops_behind : (project : ProjectView) (written : List ℕ) (before next rest : List Block) → ((n : ℕ) → n < length next → is_longer (own_answers project (before ++ take n next)) written ≡ false) → is_longer (own_answers project (before ++ next)) written ≡ true

@@ -23,7 +23,7 @@ use Rattle.connection_core.specs.Asking.{Block, acts}
 use Rattle.connection_core.specs.Alone.{solo}
 use Rattle.connection_core.specs.Ends.{Filled, whole_course, status_of as conn_status}
 use Rattle.modmap.specs.Commands.{Pipe, AsksPipe, usual, counted, AsksFor}
-use Rattle.modmap.specs.Endings.{Ended, BadWords, OutOfMemory, CannotRead, FileTooLong, Refused, Served, Reported, Cut, status_of}
+use Rattle.modmap.specs.Endings.{Ended, BadWords, OutOfMemory, CannotRead, FileTooLong, Refused, Served, Reported, Cut, WriteFailed, status_of}
 use Rattle.modmap.specs.ProjectFiles.{DeclaresProject, FindsProject, IsReadAs, most_project_octets}
 use Rattle.modmap.specs.Running.{Outside, Pipes, IsWhole, IsAllThere, LacksFile}
 use Rattle.modmap.specs.Serving.{ServesAlone}
@@ -56,10 +56,10 @@ one_task words a b m n asks also =
 
 -- ---- one project
 
-same_some : (a b : List ℕ) → Some a ≡ Some b → a ≡ b
+pub same_some : (a b : List ℕ) → Some a ≡ Some b → a ≡ b
 same_some a b e = cc
 
-same_project : (content : Option (List ℕ)) (project other : ProjectView) → DeclaresProject content project → DeclaresProject content other → project ≡ other
+pub same_project : (content : Option (List ℕ)) (project other : ProjectView) → DeclaresProject content project → DeclaresProject content other → project ≡ other
 same_project content project other p q =
     let texts : p.text ≡ q.text = same_some p.text q.text (sym p.held_is ∙ q.held_is) in
     one_project q.text project other (declared_reaches q.text project (subst (λ t. Declares t project) texts p.declares)) (declared_reaches q.text other q.declares)
@@ -135,7 +135,7 @@ told_project failed name project other None now known told = absurd known
 told_project failed name project other (Some before) None known told = absurd told.so
 told_project failed name project other (Some before) (Some now) known told = same_project (before name) other project told.so.is_read_as known
 
-not_refused : (failed : Type 0) (name : List ℕ) (project : ProjectView) (ended : Ended) (content : Option (List ℕ)) → (failed → ⊥) → ended ≢ OutOfMemory → DeclaresProject content project → IsReadAs failed name (Err ended) content → ⊥
+pub not_refused : (failed : Type 0) (name : List ℕ) (project : ProjectView) (ended : Ended) (content : Option (List ℕ)) → (failed → ⊥) → ended ≢ OutOfMemory → DeclaresProject content project → IsReadAs failed name (Err ended) content → ⊥
 not_refused failed name project BadWords content none memory known read = read
 not_refused failed name project OutOfMemory content none memory known read = memory refl
 not_refused failed name project (CannotRead named) content none memory known read = by read.cause
@@ -158,6 +158,7 @@ not_refused failed name project (Refused named line reason) content none memory 
 not_refused failed name project (Served how) content none memory known read = read
 not_refused failed name project (Reported report) content none memory known read = read
 not_refused failed name project (Cut report) content none memory known read = read
+not_refused failed name project WriteFailed content none memory known read = read
 
 pub told_refused : (failed : Type 0) (name : List ℕ) (project : ProjectView) (ended : Ended) (before now : Option Lookup) → (failed → ⊥) → ended ≢ OutOfMemory → IsSomeAnd before (λ content. DeclaresProject (content name) project) → Told (FindsProject failed name (Err ended)) before now → ⊥
 told_refused failed name project ended None now none memory known told = absurd known
@@ -179,6 +180,7 @@ module _ {L : Type 0} (outside : Outside L) (words : List (String Global)) (name
       inl (ap conn_status closed)
   all_served project (Reported report) file input no_file no_read no_write h = absurd h
   all_served project (Cut report) file input no_file no_read no_write h = absurd h
+  all_served project WriteFailed file input no_file no_read no_write h = absurd h
 
   -- a run of which all is there ends with 0, or wants memory
   pub completes : (ended : Ended) (status : ℕ) → status ≡ status_of ended → Pipes outside ended name entries → IsAllThere words outside.files_before (outside.octets outside.link_before)
@@ -221,3 +223,4 @@ module _ {L : Type 0} (outside : Outside L) (words : List (String Global)) (name
   fault_of_read (Served how) status is h four = inr (inr (h.causes.read (conn_four how (sym is ∙ four))))
   fault_of_read (Reported report) status is h four = absurd h
   fault_of_read (Cut report) status is h four = absurd h
+  fault_of_read WriteFailed status is h four = absurd h

@@ -1,9 +1,9 @@
 -- How serving goes on behind a piece.
 use Rattle.std.proofs.Common.{◌≡◌, ℕ, ◌≤◌, false, List, [], ◌∷◌, ◌++◌, length, take, drop, Option, Some, None, Ok, Err, refl, sym, ap, ap₂, subst, ◌∙◌, append_assoc, arith}
-use Rattle.std.proofs.lemmas.List.{append-nil, take-append-drop}
+use Rattle.std.proofs.lemmas.List.{take-append-drop}
 use Rattle.mm_outside.specs.declared.errors.Failed.{Failed}
 use Rattle.mm_outside.specs.Octets.{Octets}
-use Rattle.mm_outside.specs.Sending.{SameInput, Sends}
+use Rattle.mm_outside.specs.Sending.{Sends}
 use Rattle.cody_batches.specs.Blocks.{blocks, taken, has_long_block, most_octets}
 use Rattle.cody_batches.proofs.LimitLaws.{taken_whole, taken_grows}
 use Rattle.unit_registry.specs.declared.act.Act.TheVariants as act
@@ -29,9 +29,6 @@ fed_of turn.Fed no_end no_wait = refl
 fed_of (turn.Waiting place) no_end no_wait = absurd (no_wait place refl)
 fed_of (turn.Ended how) no_end no_wait = absurd (no_end how refl)
 
-same_input : (a : Octets) → SameInput a a
-same_input a = record { read = refl; to_come = refl }
-
 pub course_moved : (project : ProjectView) (entered others : List Block) (written text : List ℕ) → entered ≡ others → written ≡ text → Course project entered written → Course project others text
 course_moved project entered others written text e f course = subst (λ (w : List ℕ). Course project others w) f (subst (λ (bs : List Block). Course project bs written) e course)
 
@@ -40,17 +37,6 @@ grown : (octets more : List ℕ) → length octets ≤ most_octets → has_long_
 grown octets more few short = let grows = taken_grows octets more in (grows.0, grows.1 ∙ ap (λ (bs : List Block). bs ++ grows.0) (taken_whole octets few short))
 
 module _ {Item Held : Type 0} (project : ProjectView) (limit : ℕ) where
-  pub goes_nothing : (s : SessionState Item) (desk : DeskState Held) (a : Octets) → Goes project limit None [] s s desk desk a a
-  goes_nothing s desk a = record {
-    input = same_input a;
-    step = λ fed written stands course. record {
-      more = [];
-      written_are = sym (append-nil a.written);
-      stands = subst (Stands project s desk) (sym (append-nil fed)) stands;
-      course = course_moved project (blocks fed) (blocks (fed ++ [])) written (written ++ []) (ap blocks (sym (append-nil fed))) (sym (append-nil written)) course;
-    };
-  }
-
   -- the rest was taken, and no block ended in it
   pub stands_all : (mid new : SessionState Item) (desk after : DeskState Held) (fed rest : List ℕ) → TakesAll project fed rest new.reader → after ≡ desk → Stands project mid desk fed → Stands project new after (fed ++ rest)
   stands_all mid new desk after fed rest takes same stands = record {

@@ -9,6 +9,12 @@ pub mod PrintLemmas
 pub mod Runnings
 pub mod WordLemmas
 pub mod Complete
+pub mod Fronts
+pub mod AskedLemmas
+pub mod Gatherings
+pub mod Listers
+pub mod UnitReports
+pub mod Writings
 pub mod Reporting
 pub mod Tasks
 pub mod Replaying

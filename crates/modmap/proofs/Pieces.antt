@@ -1,5 +1,5 @@
 -- A piece is taken block by block, by a session that has its desk alone.
-use Rattle.std.proofs.Common.{◌≡◌, ◌≢◌, inl, inr, ℕ, suc, ◌+◌, ◌-◌, ◌<◌, ◌≤◌, ◌==◌, Bool, true, false, cond, List, [], ◌∷◌, ◌++◌, length, take, drop, Contains, Option, Some, None, refl, sym, ap, ap₂, subst, ◌∙◌, append_assoc, arith, eqb-true}
+use Rattle.std.proofs.Common.{◌≡◌, ◌≢◌, inl, inr, ℕ, suc, ◌+◌, ◌<◌, ◌≤◌, ◌==◌, Bool, true, false, cond, List, [], ◌∷◌, ◌++◌, length, take, drop, Contains, Option, Some, None, refl, sym, ap, ap₂, subst, ◌∙◌, append_assoc, arith, eqb-true}
 use Rattle.std.proofs.lemmas.List.{append-nil, length-append, length-map, take-append-drop, take-append-le, take_at, drop_at}
 use Rattle.std.proofs.Math.Seq.{take-add}
 use Rattle.std.proofs.lemmas.List.FromFn.{length-range_with_len}
@@ -208,9 +208,6 @@ module _ {Item Held : Type 0} (project : ProjectView) (limit : ℕ) where
       ∙ e
 
 -- ---- how a connection closes
-
-le_parts : (n m : ℕ) → n ≤ m → (more : ℕ) × (m ≡ n + more)
-le_parts n m h = (m - n, omega (arith, h))
 
 -- there was room for what was entered, for the going and the end
 pub room_left : {Held : Type 0} (project : ProjectView) (limit : ℕ) (desk : DeskState Held) (asked : List Acts) → IsAlone project limit desk → desk.seen.entries ≡ alone (act.Open ∷ asked) → length asked + 3 ≤ limit

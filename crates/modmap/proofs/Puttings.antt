@@ -1,13 +1,9 @@
 -- Texts that go out one behind another.
-use Rattle.std.proofs.Common.{◌≡◌, ℕ, ◌+◌, List, [], ◌++◌, length, take, drop, Option, Result, Ok, Err, refl, sym, ap, subst, ◌∙◌, append_assoc, arith}
-use Rattle.std.proofs.lemmas.List.{append-nil, length-append, take-append-le, take_at, drop_at}
+use Rattle.std.proofs.Common.{◌≡◌, ℕ, ◌+◌, List, ◌++◌, length, take, drop, Option, Result, Ok, Err, refl, sym, ap, subst, ◌∙◌, append_assoc, arith}
+use Rattle.std.proofs.lemmas.List.{length-append, take-append-le, take_at, drop_at}
 use Rattle.std.proofs.Math.Seq.{take-add}
 use Rattle.mm_outside.specs.declared.errors.Failed.{Failed}
-use Rattle.mm_outside.specs.Causes.{HasCause}
-use Rattle.mm_outside.specs.Sending.{AppendsAll}
-use Rattle.mm_outside.specs.Told.{Told}
-use Rattle.mm_outside.proofs.ToldLemmas.{Told-map, Told-same, Told-then}
-use Rattle.cody_words.specs.Buffers.{Buffer, Appends}
+use Rattle.mm_outside.proofs.ToldLemmas.{Told-map, Told-then}
 use Rattle.modmap.specs.Endings.{IsCut}
 use Rattle.modmap.specs.Paging.{GoesOut, Puts}
 
@@ -48,28 +44,3 @@ module _ (a b c : Option (List ℕ)) where
 -- nothing behind one that wasn't
 pub puts_part : (failed : Failed) (one two h0 h1 h2 : List ℕ) (a b : Option (List ℕ)) → Puts (Err failed) one h0 h1 a b → Puts (Err failed) (one ++ two) h0 h2 a b
 puts_part failed one two h0 h1 h2 a b = Told-map {R = IsCut (h0 ++ one)} (λ x y q. subst (λ t. IsCut t x y) (append_assoc h0 one two) (cut_more (h0 ++ one) two x y q))
-
--- a text that is held
-pub puts_held : (done : Unit {0}) (text h0 h1 : List ℕ) (a : Option (List ℕ)) → h1 ≡ h0 ++ text → Puts (Ok done) text h0 h1 a a
-puts_held done text h0 h1 a is = Told-same (λ x. record { gone = []; written = sym (append-nil x); parts = is })
-
--- a text that is held behind one that was put
-pub puts_appended : (done : Unit {0}) (one text : List ℕ) (h0 : List ℕ) (mid new : Buffer) (a b : Option (List ℕ)) → Puts (Ok done) one h0 mid.octets a b → Appends mid new text → Puts (Ok done) (one ++ text) h0 new.octets a b
-puts_appended done one text h0 mid new a b first appends = puts_then a b b (Ok done) done one text h0 mid.octets new.octets first (puts_held done text mid.octets new.octets b appends.octets)
-
--- what is held is written
-pub puts_flushed : (done : Unit {0}) (h0 h1 : List ℕ) (a b : Option (List ℕ)) → h1 ≡ [] → Told (AppendsAll {T = Unit {0}} {E = Failed} (Ok done) h0) a b → Puts (Ok done) [] h0 h1 a b
-puts_flushed done h0 h1 a b none = Told-map {R = AppendsAll {T = Unit {0}} {E = Failed} (Ok done) h0} (λ x y p. record { gone = h0; written = p; parts = ap (λ t. h0 ++ t) none })
-
--- or a part of it
-pub puts_stopped : (failed : Failed) (h0 h1 : List ℕ) (a b : Option (List ℕ)) → Told (AppendsAll {T = Unit {0}} {E = Failed} (Err failed) h0) a b → Puts (Err failed) [] h0 h1 a b
-puts_stopped failed h0 h1 a b = Told-map {R = AppendsAll {T = Unit {0}} {E = Failed} (Err failed) h0} (λ x y p. record { count = p.0; proper = let s = p.1 in let e2 = ap length (append-nil h0) in omega (arith, s, e2); appended = p.2 ∙ ap (λ t. x ++ take p.0 t) (sym (append-nil h0)) })
-
--- a text is written at once where nothing is held
-pub puts_at_once : (result : Result (Unit {0}) Failed) (text h0 : List ℕ) (a b : Option (List ℕ)) → h0 ≡ [] → Told (AppendsAll result text) a b → Puts result text h0 h0 a b
-puts_at_once (Ok u) text h0 a b none = Told-map {R = AppendsAll {T = Unit {0}} {E = Failed} (Ok u) text} (λ x y p. record { gone = text; written = p; parts = ap (λ h. text ++ h) none ∙ append-nil text ∙ sym (ap (λ h. h ++ text) none) })
-puts_at_once (Err e) text h0 a b none = Told-map {R = AppendsAll {T = Unit {0}} {E = Failed} (Err e) text} (λ x y p. subst (λ h. IsCut (h ++ text) x y) (sym none) (record { count = p.0; proper = p.1; appended = p.2 }))
-
--- a count that stood rises or stands
-pub cause_then : {T E U F : Type 0} (result : Result T E) (done : U) (before mid now : ℕ) → HasCause {T = U} {E = F} before mid (Ok done) → HasCause mid now result → HasCause before now result
-cause_then result done before mid now first second = subst (λ n. HasCause n now result) first.kept second

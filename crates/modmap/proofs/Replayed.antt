@@ -1,5 +1,5 @@
 -- A replay that has gone over the first entries of a trace.
-use Rattle.std.proofs.Common.{◌≡◌, ℕ, ◌+◌, ◌<◌, ◌≤◌, ◌^◌, suc, List, [], ◌∷◌, ◌++◌, length, take, drop, Option, Some, None, Result, Ok, Err, IfOk, reverse, sym, ap, ap₂, subst, ◌∙◌, append_assoc, arith}
+use Rattle.std.proofs.Common.{◌≡◌, ℕ, ◌+◌, ◌<◌, ◌≤◌, ◌^◌, suc, List, [], ◌∷◌, ◌++◌, length, take, drop, Option, Some, None, Result, Ok, Err, IfOk, sym, ap, ap₂, subst, ◌∙◌, append_assoc, arith}
 use Rattle.std.specs.Prelude.{All, min, slice_get}
 use Rattle.std.proofs.lemmas.List.{append-nil, length-map, length-reverse, length-take, take-append-drop, take_all, take_more}
 use Rattle.std.proofs.lemmas.Option.{get_or_from_slice_get, slice_get_within}
@@ -77,15 +77,6 @@ module _ (entries : List Entry) (place : ℕ) (entry : Entry) (at : slice_get en
       ∙ ap (λ t. t ++ entries_text project workers (take (place + 1) entries) (drop (place + 1) entries)) (text_up_to project workers)
 
 -- ---- going over the entries
-
--- nothing was entered yet
-pub played_none : (project : ProjectView) (trace : Trace) (limit : ℕ) (ledger : LedgerView) (waiting : List Wait) → ledger.project ≡ project → ledger.workers ≡ trace.workers → ledger.limit ≡ limit → ledger.entries ≡ [] → waiting ≡ [] → HasPlayed project trace limit 0 ledger waiting
-played_none project trace limit ledger waiting project_is workers_is limit_is entries_are none = record {
-  of = record { project_is = project_is; workers_is = workers_is };
-  limit_is = limit_is;
-  entries_are = entries_are;
-  waits = record { are = none ∙ sym (ap (λ (es : List Entry). reverse (pending ledger.project (noted_of ledger.project ledger.workers es))) entries_are) };
-}
 
 module _ (project : ProjectView) (trace : Trace) (limit place : ℕ) (ledger : LedgerView) (waiting : List Wait) (played : HasPlayed project trace limit place ledger waiting) (entry : Entry) (at : slice_get trace.entries place ≡ Some entry) where
   -- the next entry passes the checks

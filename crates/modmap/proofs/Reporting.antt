@@ -11,11 +11,10 @@ use Rattle.histories.specs.declared.illegal_reason.IllegalReason.{IllegalReason}
 use Rattle.histories.specs.Histories.{IsLegal, IsFirstFault}
 use Rattle.histories.proofs.Legality.{none_if_legal, some_if_illegal}
 use Rattle.trace_text.specs.declared.trace.Trace.{Trace}
-use Rattle.modmap.specs.declared.sources.Sources.{Sources}
-use Rattle.modmap.specs.Endings.{Report, Ended, BadWords, OutOfMemory, CannotRead, FileTooLong, Refused, Served, Reported, Cut, Prints, Speaks, HasSinkCause, Tells, Issues, message_of, status_of}
+use Rattle.modmap.specs.Endings.{Report, Ended, BadWords, OutOfMemory, CannotRead, FileTooLong, Refused, Served, Reported, Cut, WriteFailed, Issues, status_of}
 use Rattle.modmap.specs.ProjectFiles.{FindsProject, IsOfFile, IsUnreadable}
 use Rattle.modmap.specs.TraceFiles.{FindsTrace, IsTraceReadAs}
-use Rattle.modmap.specs.Reports.{Refuses, FindsBoth, IsReportOf, ReportsSo, RunsReport, fault_of, by_fault, illegal_report}
+use Rattle.modmap.specs.Reports.{Refuses, FindsBoth, fault_of, by_fault, illegal_report}
 
 -- ---- a count that rises later has risen
 
@@ -42,6 +41,7 @@ trace_since failed since later name (Err (Refused named line reason)) held h = h
 trace_since failed since later name (Err (Served how)) held h = h
 trace_since failed since later name (Err (Reported report)) held h = h
 trace_since failed since later name (Err (Cut report)) held h = h
+trace_since failed since later name (Err WriteFailed) held h = h
 
 module _ (failed late since : Type 0) (project_name trace_name : List ℕ) (a b c : Option Lookup) where
   -- the project that was read first, over both reads
@@ -55,10 +55,6 @@ module _ (failed late since : Type 0) (project_name trace_name : List ℕ) (a b 
     same = q.same ∙ p.same;
   })
 
-  -- both were read
-  pub both_found : (late → since) → (sources : Sources) → Told (FindsProject failed project_name (Ok sources.project)) a b → Told (FindsTrace late trace_name (Ok sources.trace)) b c → FindsBoth since a c project_name trace_name (Ok sources)
-  both_found later sources first second = (project_first sources.project (Ok sources.trace) first second, trace_second later sources.project (Ok sources.trace) first second)
-
   -- the trace wasn't
   pub second_refused : (late → since) → (project : ProjectView) (ended : Ended) → IsOfFile ended → Told (FindsProject failed project_name (Ok project)) a b → Told (FindsTrace late trace_name (Err ended)) b c → FindsBoth since a c project_name trace_name (Err ended)
   second_refused later project BadWords kind first second = absurd kind
@@ -69,92 +65,14 @@ module _ (failed late since : Type 0) (project_name trace_name : List ℕ) (a b 
   second_refused later project (Served how) kind first second = absurd kind
   second_refused later project (Reported report) kind first second = absurd kind
   second_refused later project (Cut report) kind first second = absurd kind
-
--- the project file wasn't read
-pub first_refused : (failed : Type 0) (project_name trace_name : List ℕ) (a b : Option Lookup) (ended : Ended) → IsOfFile ended → Told (FindsProject failed project_name (Err ended)) a b → FindsBoth failed a b project_name trace_name (Err ended)
-first_refused failed project_name trace_name a b BadWords kind told = absurd kind
-first_refused failed project_name trace_name a b OutOfMemory kind told = Told-map (λ x y p. p.same) told
-first_refused failed project_name trace_name a b (CannotRead named) kind told = Refuses.project_refused told
-first_refused failed project_name trace_name a b (FileTooLong named) kind told = Refuses.project_refused told
-first_refused failed project_name trace_name a b (Refused named line reason) kind told = Refuses.project_refused told
-first_refused failed project_name trace_name a b (Served how) kind told = absurd kind
-first_refused failed project_name trace_name a b (Reported report) kind told = absurd kind
-first_refused failed project_name trace_name a b (Cut report) kind told = absurd kind
+  second_refused later project WriteFailed kind first second = absurd kind
 
 -- ---- endings
 
 module _ (failed : Type 0) (a b : Option Lookup) (project_name trace_name : List ℕ) where
-  stays : (ended : Ended) → Refuses failed a b project_name trace_name ended → Told (λ (old new : Lookup). new ≡ old) a b
+  pub stays : (ended : Ended) → Refuses failed a b project_name trace_name ended → Told (λ (old new : Lookup). new ≡ old) a b
   stays ended (Refuses.project_refused told) = Told-map (λ x y p. p.same) told
   stays ended (Refuses.trace_refused project first second) = Told-map (λ x y p. p.same) second
-
-  -- no file changed
-  aside : (ended : Ended) → IsOfFile ended → FindsBoth failed a b project_name trace_name (Err ended) → Told (λ (old new : Lookup). new ≡ old) a b
-  aside BadWords kind found = absurd kind
-  aside OutOfMemory kind found = found
-  aside (CannotRead named) kind found = stays (CannotRead named) found
-  aside (FileTooLong named) kind found = stays (FileTooLong named) found
-  aside (Refused named line reason) kind found = stays (Refused named line reason) found
-  aside (Served how) kind found = absurd kind
-  aside (Reported report) kind found = absurd kind
-  aside (Cut report) kind found = absurd kind
-
-  refused_both : (reports : ProjectView → Trace → Report) (ended : Ended) → IsOfFile ended → FindsBoth failed a b project_name trace_name (Err ended) → ReportsSo failed a b reports ended project_name trace_name
-  refused_both reports BadWords kind found = absurd kind
-  refused_both reports OutOfMemory kind found = found
-  refused_both reports (CannotRead named) kind found = found
-  refused_both reports (FileTooLong named) kind found = found
-  refused_both reports (Refused named line reason) kind found = found
-  refused_both reports (Served how) kind found = absurd kind
-  refused_both reports (Reported report) kind found = absurd kind
-  refused_both reports (Cut report) kind found = absurd kind
-
-  kind_speaks : (ended : Ended) (before now : ℕ) (x y : Option (List ℕ)) → IsOfFile ended → Told (Prints (message_of ended) before now) x y → Told (Speaks ended before now) x y
-  kind_speaks BadWords before now x y kind told = absurd kind
-  kind_speaks OutOfMemory before now x y kind told = told
-  kind_speaks (CannotRead named) before now x y kind told = told
-  kind_speaks (FileTooLong named) before now x y kind told = told
-  kind_speaks (Refused named line reason) before now x y kind told = told
-  kind_speaks (Served how) before now x y kind told = absurd kind
-  kind_speaks (Reported report) before now x y kind told = absurd kind
-  kind_speaks (Cut report) before now x y kind told = absurd kind
-
-  kind_cause : (ended : Ended) (before now : ℕ) → IsOfFile ended → HasSinkCause ended before now
-  kind_cause BadWords before now kind = tt
-  kind_cause OutOfMemory before now kind = tt
-  kind_cause (CannotRead named) before now kind = tt
-  kind_cause (FileTooLong named) before now kind = tt
-  kind_cause (Refused named line reason) before now kind = tt
-  kind_cause (Served how) before now kind = tt
-  kind_cause (Reported report) before now kind = tt
-  kind_cause (Cut report) before now kind = absurd kind
-
-  module _ (reports : ProjectView → Trace → Report) (before now : ℕ) (x y : Option (List ℕ)) (status : ℕ) where
-    -- a message was told of what a file brought
-    pub told_of_files : (ended : Ended) → IsOfFile ended → FindsBoth failed a b project_name trace_name (Err ended) → Tells ended before now x y status → RunsReport failed a b reports project_name trace_name before now x y status
-    told_of_files ended kind found tells = by tells.ending_is
-      where
-        ends : IsOfFile tells.ending → ReportsSo failed a b reports tells.ending project_name trace_name → RunsReport failed a b reports project_name trace_name before now x y status
-        ends its so = record { ending = tells.ending; status_is = tells.status_is; spoken = kind_speaks tells.ending before now x y its tells.message; cause = kind_cause tells.ending before now its; reports_so = so }
-
-        by : (tells.ending ≡ ended) ⊎ (tells.ending ≡ OutOfMemory) → RunsReport failed a b reports project_name trace_name before now x y status
-        by (inl same) = ends (subst (λ e. IsOfFile e) (sym same) kind) (subst (λ e. ReportsSo failed a b reports e project_name trace_name) (sym same) (refused_both reports ended kind found))
-        by (inr none) = ends (subst (λ e. IsOfFile e) (sym none) tt) (subst (λ e. ReportsSo failed a b reports e project_name trace_name) (sym none) (aside ended kind found))
-
-    -- memory ran out behind both files
-    pub told_of_memory : (sources : Sources) → FindsBoth failed a b project_name trace_name (Ok sources) → Tells OutOfMemory before now x y status → RunsReport failed a b reports project_name trace_name before now x y status
-    told_of_memory sources found tells = told_of_files OutOfMemory tt (Told-map (λ p q f. f.same) found.0) tells
-
-    -- the report was printed
-    pub issued : (sources : Sources) → FindsBoth failed a b project_name trace_name (Ok sources) → Issues (reports sources.project sources.trace) before now x y status → RunsReport failed a b reports project_name trace_name before now x y status
-    issued sources found issues = record { ending = issues.ending; status_is = issues.status_is; spoken = issues.spoken; cause = issues.cause; reports_so = by issues.ending_is }
-      where
-        is : IsReportOf failed a b reports project_name trace_name (reports sources.project sources.trace)
-        is = record { project = sources.project; trace = sources.trace; reads_project = found.0; reads_trace = found.1; report_is = refl }
-
-        by : (issues.ending ≡ Reported (reports sources.project sources.trace)) ⊎ (issues.ending ≡ Cut (reports sources.project sources.trace)) → ReportsSo failed a b reports issues.ending project_name trace_name
-        by (inl same) = subst (λ e. ReportsSo failed a b reports e project_name trace_name) (sym same) is
-        by (inr same) = subst (λ e. ReportsSo failed a b reports e project_name trace_name) (sym same) is
 
 -- ---- printing a report
 

@@ -1,30 +1,30 @@
 -- What a run comes to, by its ending.
-use Rattle.std.proofs.Common.{◌≡◌, ◌≢◌, ◌⊎◌, inl, inr, ℕ, ◌≤◌, List, Option, Some, None, refl, sym, ap, ◌∙◌, arith}
+use Rattle.std.proofs.Common.{◌≡◌, ◌≢◌, ◌⊎◌, inl, inr, ℕ, List, Option, refl, sym, ap, ◌∙◌, arith}
 use Rattle.mm_outside.specs.Causes.{Rose}
+use Rattle.mm_outside.specs.Files.{Lookup}
 use Rattle.mm_outside.specs.Told.{Told}
 use Rattle.connection_core.specs.declared.conn_end.ConnEnd.{ConnEnd}
 use Rattle.connection_core.specs.declared.conn_end.ConnEnd.TheVariants.{Closed, Truncated, ReadFault, WriteFault, TooLong, BatchTooLong, HistoryFull}
 use Rattle.modmap.specs.declared.verb.Verb.{Verb}
 use Rattle.modmap.specs.declared.verb.Verb.TheVariants as verb
-use Rattle.modmap.specs.Commands.{Pipe, Check, Replay, AsksPipe, usual, counted, AsksAs, AsksFor}
-use Rattle.modmap.specs.Endings.{Ended, BadWords, OutOfMemory, CannotRead, FileTooLong, Refused, Served, Reported, Cut, Prints, Speaks, HasSinkCause, message_of, status_of}
+use Rattle.modmap.specs.Commands.{Pipe, Check, Replay, ListUnits, Generate, AsksPipe, AsksAs, AsksFor}
+use Rattle.modmap.specs.Endings.{Ended, BadWords, OutOfMemory, CannotRead, FileTooLong, Refused, Served, Reported, Cut, WriteFailed, Prints, Speaks, HasSinkCause, message_of, status_of}
 use Rattle.std.proofs.Common.{Err}
 use Rattle.mm_outside.proofs.ToldLemmas.{Told-map}
 use Rattle.modmap.specs.ProjectFiles.{FindsProject, IsOfFile}
 use Rattle.modmap.specs.Running.{Outside, Pipes}
-
-same_entries : (a b : List ℕ) (m n : ℕ) → Pipe a m ≡ Pipe b n → m ≡ n
-same_entries a b m n e = cc
-
-bounds_behind : (words : List (List ℕ)) (name : List ℕ) (entries : ℕ) → AsksPipe words (Pipe name entries) → (3 ≤ entries) × (entries ≤ 1048576)
-bounds_behind words name entries (usual project are is) = let n = same_entries name project entries 65536 is in (omega (arith, n), omega (arith, n))
-bounds_behind words name entries (counted project word count are spelled is) = let n = same_entries name project entries count is in (omega (arith, n, spelled.at_least), omega (arith, n, spelled.at_most))
 
 no_check : (name project trace : List ℕ) (entries : ℕ) → Pipe name entries ≡ Check project trace → ⊥
 no_check name project trace entries e = cc
 
 no_replay : (name project trace : List ℕ) (entries : ℕ) → Pipe name entries ≡ Replay project trace → ⊥
 no_replay name project trace entries e = cc
+
+no_list : (name project : List ℕ) (entries : ℕ) → Pipe name entries ≡ ListUnits project → ⊥
+no_list name project entries e = cc
+
+no_gen : (name folder : List ℕ) (entries units seed : ℕ) → Pipe name entries ≡ Generate folder units seed → ⊥
+no_gen name folder entries units seed e = cc
 
 -- what words that ask for `pipe` have behind the verb
 pub asked_of_pipe : (words : List (List ℕ)) (name : List ℕ) (entries : ℕ) (asks : AsksFor words (Pipe name entries)) → AsksPipe asks.rest (Pipe name entries)
@@ -34,10 +34,8 @@ asked_of_pipe words name entries asks = by asks.first asks.asked
     by verb.Pipe asked = asked
     by verb.Check asked = absurd (no_check name asked.project asked.trace entries asked.task_is)
     by verb.Replay asked = absurd (no_replay name asked.project asked.trace entries asked.task_is)
-
--- the entries that are asked for lie between the bounds
-pub asked_bounds : (words : List (List ℕ)) (name : List ℕ) (entries : ℕ) → AsksFor words (Pipe name entries) → (3 ≤ entries) × (entries ≤ 1048576)
-asked_bounds words name entries asks = bounds_behind asks.rest name entries (asked_of_pipe words name entries asks)
+    by verb.List asked = absurd (no_list name asked.project entries asked.task_is)
+    by verb.Gen asked = absurd (no_gen name asked.folder entries asked.units asked.seed asked.task_is)
 
 module _ {L : Type 0} (outside : Outside L) (name : List ℕ) (entries : ℕ) where
   conn_two : (how : ConnEnd) → status_of (Served how) ≢ 2
@@ -59,6 +57,7 @@ module _ {L : Type 0} (outside : Outside L) (name : List ℕ) (entries : ℕ) wh
   never_two (Served how) h e = conn_two how e
   never_two (Reported report) h e = h
   never_two (Cut report) h e = h
+  never_two WriteFailed h e = h
 
   -- the link is as it was after want of memory, and where the file is refused
   aside : (ended : Ended) → Pipes outside ended name entries → ((how : ConnEnd) → ended ≡ Served how → ⊥) → outside.link_now ≡ outside.link_before
@@ -70,6 +69,7 @@ module _ {L : Type 0} (outside : Outside L) (name : List ℕ) (entries : ℕ) wh
   aside (Served how) h none = absurd (none how refl)
   aside (Reported report) h none = absurd h
   aside (Cut report) h none = absurd h
+  aside WriteFailed h none = absurd h
 
   conn_three : (how : ConnEnd) → (status_of (Served how) ≡ 3) ⊎ (status_of (Served how) ≡ 6) → ⊥
   conn_three Closed (inl e) = omega (arith, e)
@@ -110,6 +110,7 @@ module _ {L : Type 0} (outside : Outside L) (name : List ℕ) (entries : ℕ) wh
   fault_of_write (Served how) status is h five = h.causes.write (conn_five how (sym is ∙ five))
   fault_of_write (Reported report) status is h five = absurd h
   fault_of_write (Cut report) status is h five = absurd h
+  fault_of_write WriteFailed status is h five = absurd h
 
   -- what is printed is the message
   pub speaks : (ended : Ended) (before now : ℕ) (a b : Option (List ℕ)) → Pipes outside ended name entries → Told (Prints (message_of ended) before now) a b → Told (Speaks ended before now) a b
@@ -121,6 +122,7 @@ module _ {L : Type 0} (outside : Outside L) (name : List ℕ) (entries : ℕ) wh
   speaks (Served how) before now a b h told = told
   speaks (Reported report) before now a b h told = absurd h
   speaks (Cut report) before now a b h told = absurd h
+  speaks WriteFailed before now a b h told = absurd h
 
   pub no_sink_cause : (ended : Ended) (before now : ℕ) → Pipes outside ended name entries → HasSinkCause ended before now
   no_sink_cause BadWords before now h = tt
@@ -131,6 +133,19 @@ module _ {L : Type 0} (outside : Outside L) (name : List ℕ) (entries : ℕ) wh
   no_sink_cause (Served how) before now h = tt
   no_sink_cause (Reported report) before now h = absurd h
   no_sink_cause (Cut report) before now h = absurd h
+  no_sink_cause WriteFailed before now h = absurd h
+
+-- `pipe` changes no file
+pub pipe_stays : {L : Type 0} (outside : Outside L) (name : List ℕ) (entries : ℕ) (ended : Ended) → Pipes outside ended name entries → Told (λ (old new : Lookup). new ≡ old) outside.files_before outside.files_now
+pipe_stays outside name entries BadWords h = absurd h
+pipe_stays outside name entries OutOfMemory h = h.files
+pipe_stays outside name entries (CannotRead named) h = Told-map (λ a b found. found.same) h.reads
+pipe_stays outside name entries (FileTooLong named) h = Told-map (λ a b found. found.same) h.reads
+pipe_stays outside name entries (Refused named line reason) h = Told-map (λ a b found. found.same) h.reads
+pipe_stays outside name entries (Served how) h = Told-map (λ a b found. found.same) h.reads
+pipe_stays outside name entries (Reported report) h = absurd h
+pipe_stays outside name entries (Cut report) h = absurd h
+pipe_stays outside name entries WriteFailed h = absurd h
 
 -- a project file that brings an ending
 pub refused_so : {L : Type 0} (outside : Outside L) (name : List ℕ) (entries : ℕ) (ended : Ended) → IsOfFile ended → Told (FindsProject (Rose outside.file_reads_before outside.file_reads_now) name (Err ended)) outside.files_before outside.files_now → outside.link_now ≡ outside.link_before → Pipes outside ended name entries
@@ -142,7 +157,4 @@ refused_so outside name entries (Refused named line reason) kind reads link = re
 refused_so outside name entries (Served how) kind reads link = absurd kind
 refused_so outside name entries (Reported report) kind reads link = absurd kind
 refused_so outside name entries (Cut report) kind reads link = absurd kind
-
-pub none_left : {A : Type 0} (r : Option A) → ((x : A) → r ≡ Some x → ⊥) → r ≡ None
-none_left None h = refl
-none_left (Some x) h = absurd (h x refl)
+refused_so outside name entries WriteFailed kind reads link = absurd kind

@@ -1,8 +1,8 @@
 -- A connection that is served alone: what it has entered and was answered, block by block, and its history when it has gone.
-use Rattle.std.proofs.Common.{◌≡◌, ℕ, zero, suc, ◌+◌, ◌-◌, ◌<◌, ◌≤◌, ◌⊎◌, inl, inr, ◌==◌, ◌&&◌, true, false, cond, List, [], ◌∷◌, ◌++◌, length, take, Option, Some, refl, sym, ap, ◌∙◌, append_assoc, arith}
+use Rattle.std.proofs.Common.{◌≡◌, ℕ, zero, suc, ◌+◌, ◌-◌, ◌<◌, ◌≤◌, ◌⊎◌, inl, inr, ◌==◌, ◌&&◌, true, false, cond, List, [], ◌∷◌, ◌++◌, length, take, Option, Some, sym, ap, ◌∙◌, append_assoc, arith}
 use Rattle.std.specs.Prelude.{nat_le}
 use Rattle.std.proofs.lemmas.Bool.Decides.{nat_tests}
-use Rattle.std.proofs.lemmas.List.{append-nil, length-append, take-append-le, take_all, take_at, length-take-le, length-map}
+use Rattle.std.proofs.lemmas.List.{append-nil, length-append, take-append-le, take_all, take_at, length-take-le}
 use Rattle.unit_registry.specs.declared.act.Act.{Act as Acts}
 use Rattle.unit_registry.specs.declared.act.Act.TheVariants as act
 use Rattle.unit_registry.specs.Projects.{ProjectView}
@@ -15,10 +15,6 @@ use Rattle.connection_core.specs.Alone.{alone, is_longer, own_answers, stopped_b
 use Rattle.connection_core.specs.Ends.{whole_course}
 use Rattle.modmap.specs.Ladder.{so_far, Course, last_done}
 use Rattle.modmap.proofs.Answering.{own_answers-push, acts-append, acts_alone, acts_behind, alone-append, stops_behind}
-
--- nothing was entered
-pub course_begins : (project : ProjectView) → Course project [] []
-course_begins project = record { answered = refl; fronts = λ n. ([], ap (own_answers project) (take_all n [] (omega arith)), omega arith) }
 
 compared : (n m : ℕ) → (n ≤ m) ⊎ (m < n)
 compared zero m = inl (omega arith)
@@ -68,11 +64,6 @@ gone asked last = alone (act.Open ∷ asked ++ last ∷ []) ++ last_done ∷ []
 
 pub gone_course : (asked : List Acts) (last : Acts) → acts_of 0 (gone asked last) ≡ whole_course asked last
 gone_course asked last = acts-append 0 (alone (act.Open ∷ asked ++ last ∷ [])) (last_done ∷ []) ∙ append-nil (acts_of 0 (alone (act.Open ∷ asked ++ last ∷ []))) ∙ acts_alone (act.Open ∷ asked ++ last ∷ [])
-
-pub gone_length : (asked : List Acts) (last : Acts) → length (gone asked last) ≡ length asked + 3
-gone_length asked last =
-    let whole : length (alone (act.Open ∷ asked ++ last ∷ [])) ≡ length (act.Open ∷ asked ++ last ∷ []) = length-map (act.Open ∷ asked ++ last ∷ []) (λ asked. record { conn = 0; act = asked }) in
-    omega (arith, length-append (alone (act.Open ∷ asked ++ last ∷ [])) (last_done ∷ []), whole, length-append asked (last ∷ []))
 
 -- it begins with what was entered
 pub gone_begins : (project : ProjectView) (entered : List Block) (more : List Acts) (last : Acts) → gone (acts project entered ++ more) last ≡ so_far project entered ++ (alone (more ++ last ∷ []) ++ last_done ∷ [])

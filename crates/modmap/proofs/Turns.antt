@@ -25,7 +25,6 @@ use Rattle.connection_core.specs.Sessions.{SessionState, StandsAfter, IsIdle, en
 use Rattle.connection_core.specs.Taking.{end_holding}
 use Rattle.modmap.specs.Serving.{Moves}
 use Rattle.modmap.specs.Ladder.{so_far, Course, IsReady, TellsAll, IsAlone, Stands, Closes, Goes, Serving, Served, Turns, Left, last_done}
-use Rattle.modmap.proofs.Soloing.{course_begins}
 use Rattle.modmap.proofs.Going.{course_moved}
 use Rattle.modmap.proofs.Pieces.{closes_closed, closes_truncated, closes_read_fault}
 
@@ -109,12 +108,6 @@ module _ {Item Held : Type 0} (project : ProjectView) (limit : ℕ) where
   }
 
   -- ---- the whole connection
-
-  pub serving_nothing : (s : SessionState Item) (desk : DeskState Held) (a : Octets) → Stands project s desk [] → Serving project s desk a a
-  serving_nothing s desk a h = record { fed = []; written = []; moves = record { read_are = sym (append-nil a.read); to_come_was = refl; written_are = sym (append-nil a.written) }; stands = h; course = course_begins project }
-
-  pub serving_more : (old new : SessionState Item) (desk after : DeskState Held) (start a b : Octets) → Serving project old desk start a → Turns project limit None old new desk after a b → Serving project new after start b
-  serving_more old new desk after start a b s turn = turn.step start s
 
   pub serves : (how : ConnEnd) (old new : SessionState Item) (desk after : DeskState Held) (start a b : Octets) → Serving project old desk start a → Turns project limit (Some how) old new desk after a b → Served project limit how after start b
   serves how old new desk after start a b s turn = turn.step start s

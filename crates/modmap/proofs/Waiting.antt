@@ -190,9 +190,6 @@ one_alike (z ∷ []) x y one (inl h) (inr k) = absurd k
 one_alike (z ∷ []) x y one (inr h) k = absurd h
 one_alike (z ∷ w ∷ xs) x y one h k = absurd (omega (arith, one))
 
-true_for : (b : Bool) → IsTrue b → b ≡ true
-true_for b h = h
-
 -- where the only worker serves a connection that has paused, that one waits for nothing
 pub goes_on_alone : (project : ProjectView) (limit : ℕ) (history : List Entry) (conn : ℕ) → IsLegal project 1 limit history → open_count (answered_in project 1 history) ≡ 1 → done_count (answered_in project 1 history) ≡ 0
     → is_open (answered_in project 1 history) conn ≡ true → is_paused (answered_in project 1 history) conn ≡ true → is_waiting project (noted_of project 1 history) conn ≡ false

@@ -3,28 +3,11 @@ use Rattle.std.proofs.Common.{◌<◌, ◌≡◌, ℕ, Bool, true, List, [], ◌
 use Rattle.std.specs.Str.{bytes_eq}
 use Rattle.std.proofs.lemmas.Slice.Eq.{bytes_eq-Decides}
 
-one_item : {X Y : Type 0} (f : X → Y) (xs : List X) (x : X) → length xs ≡ 1 → x ≡ get_or xs 0 x → map f xs ≡ f x ∷ []
-one_item f [] x one e = absurd (omega (arith, one))
-one_item f (y ∷ []) x one e = ap (λ z. f z ∷ []) (sym e)
-one_item f (y ∷ z ∷ xs) x one e = absurd (omega (arith, one))
-
 true_is : (b : Bool) → IsTrue b → b ≡ true
 true_is b h = search (arith, h)
 
 is_true : (b : Bool) → b ≡ true → IsTrue b
 is_true b h = search (arith, h)
-
--- the one word is this text exactly where the test says so
-pub one_word : {X : Type 0} (bytes : X → List ℕ) (words : List X) (word : X) (text : List ℕ) (found : List ℕ) (test : Bool) → length words ≡ 1 → word ≡ get_or words 0 word → found ≡ bytes word → test ≡ bytes_eq found text
-    → (IsTrue test → map bytes words ≡ text ∷ []) × (map bytes words ≡ text ∷ [] → IsTrue test)
-one_word bytes words word text found test one at same e =
-    let all = one_item bytes words word one at in (
-      λ h. all ∙ ap (λ t. t ∷ []) (sym same ∙ (bytes_eq-Decides found text).0 (sym e ∙ true_is test h)),
-      λ h. is_true test (e ∙ (bytes_eq-Decides found text).1 (same ∙ first (sym all ∙ h))),
-    )
-  where
-    first : {x y : List ℕ} → x ∷ [] ≡ y ∷ [] → x ≡ y
-    first h = cc
 
 begins : {X Y : Type 0} (f : X → Y) (xs : List X) (x : X) → 0 < length xs → x ≡ get_or xs 0 x → (rest : List Y) × (map f xs ≡ f x ∷ rest)
 begins f [] x some e = absurd (omega (arith, some))

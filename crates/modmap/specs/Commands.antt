@@ -1,23 +1,29 @@
 -- The commands, as words of the command line.
 use Rattle.std.specs.Prelude.{◌≡◌, ℕ, ◌≤◌, List, [], ◌∷◌, map, String, string_bytes, codes, decimal}
 use Rattle.std.specs.declared.alloc.Global.{Global}
+use Rattle.modmap.specs.Askings.{AsksGen, AsksList}
 use Rattle.modmap.specs.declared.command.Command.{Command}
 use Rattle.modmap.specs.declared.command.Command.TheVariants as command
 use Rattle.modmap.specs.declared.verb.Verb.{Verb}
 use Rattle.modmap.specs.declared.verb.Verb.TheVariants as verb
 
--- what is to be done: serve one connection over this project file, in a history of at most so many entries; check a
--- trace against a project; or replay one
+-- what is to be done: serve one connection over this project file, in a history of at most so many entries; check a trace
+-- against a project, or replay one; compile the units of a project one by one and report on them; or write a generated
+-- project of so many units into a folder
 pub data Task : Type 0 where
   Pipe : (project : List ℕ) → (entries : ℕ) → Task
   Check : (project trace : List ℕ) → Task
   Replay : (project trace : List ℕ) → Task
+  ListUnits : (project : List ℕ) → Task
+  Generate : (folder : List ℕ) → (units seed : ℕ) → Task
 
 -- what a command asks for, its texts as lists of octets
 abbrev pub task_of : Command → Task
 task_of (command.Pipe project entries) = Pipe project.now entries
 task_of (command.Check project trace) = Check project.now trace.now
 task_of (command.Replay project trace) = Replay project.now trace.now
+task_of (command.List project) = ListUnits project.now
+task_of (command.Gen folder units seed) = Generate folder.now units seed
 
 -- the word spells a number of entries that a history may have at most
 pub record IsEntries (word : List ℕ) (entries : ℕ) : Type 0 where
@@ -37,17 +43,35 @@ pub record AsksOfTrace (asks : List ℕ → List ℕ → Task) (words : List (Li
   pub words_are : words ≡ project ∷ trace ∷ []
   pub task_is : task ≡ asks project trace
 
+-- the words are PROJECT, of the task to report on its units
+pub record AsksToList (words : List (List ℕ)) (task : Task) : Type 0 where
+  pub project : List ℕ
+  pub asks : AsksList words project
+  pub task_is : task ≡ ListUnits project
+
+-- the words are FOLDER UNITS SEED, of the task to generate so
+pub record AsksToGenerate (words : List (List ℕ)) (task : Task) : Type 0 where
+  pub folder : List ℕ
+  pub units : ℕ
+  pub seed : ℕ
+  pub asks : AsksGen words folder units seed
+  pub task_is : task ≡ Generate folder units seed
+
 -- the word of a verb
 abbrev pub verb_text : Verb → List ℕ
 verb_text verb.Pipe = codes "pipe"
 verb_text verb.Check = codes "check"
 verb_text verb.Replay = codes "replay"
+verb_text verb.List = codes "list"
+verb_text verb.Gen = codes "gen"
 
 -- what the words behind a verb ask for
 abbrev pub AsksAs : Verb → List (List ℕ) → Task → Type 0
 AsksAs verb.Pipe words task = AsksPipe words task
 AsksAs verb.Check words task = AsksOfTrace Check words task
 AsksAs verb.Replay words task = AsksOfTrace Replay words task
+AsksAs verb.List words task = AsksToList words task
+AsksAs verb.Gen words task = AsksToGenerate words task
 
 -- the words ask for this: a verb, and what it needs behind it
 pub record AsksFor (words : List (List ℕ)) (task : Task) : Type 0 where

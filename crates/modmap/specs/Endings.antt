@@ -14,7 +14,8 @@ pub record Report : Type 0 where
   pub text : List ℕ
   pub good : Bool
 
--- how a run of the program ends: by a message, by a report that was printed whole, or by one that was cut short
+-- how a run of the program ends: by a message, by a report that was printed whole, or by one that was cut short; `WriteFailed`
+-- says that a file couldn't be written
 pub data Ended : Type 0 where
   BadWords : Ended
   OutOfMemory : Ended
@@ -24,6 +25,7 @@ pub data Ended : Type 0 where
   Served : (how : ConnEnd) → Ended
   Reported : (report : Report) → Ended
   Cut : (report : Report) → Ended
+  WriteFailed : Ended
 
 -- what an ending tells, its texts as lists of octets
 abbrev pub told_by : Ending → Ended
@@ -44,6 +46,7 @@ status_of (Refused name line reason) = 6
 status_of (Served how) = conn_status how
 status_of (Reported report) = if report.good then 0 else 1
 status_of (Cut report) = 5
+status_of WriteFailed = 5
 
 -- what is said of an input that ended while so many lines were held
 abbrev pub truncated_text : ℕ → List ℕ
@@ -81,6 +84,7 @@ message_of (Refused name line reason) = refused_text name line reason
 message_of (Served how) = conn_message how
 message_of (Reported report) = []
 message_of (Cut report) = []
+message_of WriteFailed = codes "modmap: write failed\n"
 
 -- the octets beside a name and a reason that a message has at most
 abbrev pub frame_room : ℕ
@@ -96,6 +100,7 @@ message_room (Refused name line reason) = word_room name + length reason + frame
 message_room (Served how) = frame_room
 message_room (Reported report) = frame_room
 message_room (Cut report) = frame_room
+message_room WriteFailed = frame_room
 
 -- a text was appended, or a part of it where the count of faults rose
 pub record Prints (text : List ℕ) (faults_before faults_now : ℕ) (old new : List ℕ) : Type 0 where
@@ -128,10 +133,14 @@ pub record Tells (ended : Ended) (faults_before faults_now : ℕ) (out_before ou
   pub status_is : status ≡ status_of ending
   pub message : Told (Prints (message_of ending) faults_before faults_now) out_before out_now
 
+-- an ending with a report, printed whole or cut short
+abbrev pub EndsIn : Report → Ended → Type 0
+EndsIn report ended = (ended ≡ Reported report) ⊎ (ended ≡ Cut report)
+
 -- The report was printed, whole or up to a write that failed.
 pub record Issues (report : Report) (faults_before faults_now : ℕ) (out_before out_now : Option (List ℕ)) (status : ℕ) : Type 0 where
   pub ending : Ended
-  pub ending_is : (ending ≡ Reported report) ⊎ (ending ≡ Cut report)
+  pub ending_is : EndsIn report ending
   pub status_is : status ≡ status_of ending
   pub spoken : Told (Speaks ending faults_before faults_now) out_before out_now
   pub cause : HasSinkCause ending faults_before faults_now

@@ -10,3 +10,6 @@ pub mod Running
 pub mod Replays
 pub mod Paging
 pub mod Plays
+pub mod Generating
+pub mod Askings
+pub mod ListRuns

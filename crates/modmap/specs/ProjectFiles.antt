@@ -6,7 +6,7 @@ use Rattle.unit_registry.specs.Readings.{Declares, IsFault}
 use Rattle.unit_registry.specs.Reasons.{reason_text}
 use Rattle.mm_outside.specs.Files.{Lookup}
 use Rattle.modmap.specs.declared.ending.Ending.{Ending}
-use Rattle.modmap.specs.Endings.{Ended, told_by, BadWords, OutOfMemory, CannotRead, FileTooLong, Refused, Served, Reported, Cut}
+use Rattle.modmap.specs.Endings.{Ended, told_by, BadWords, OutOfMemory, CannotRead, FileTooLong, Refused, Served, Reported, Cut, WriteFailed}
 
 -- the most octets that a project file may have
 abbrev pub most_project_octets : ℕ
@@ -53,6 +53,7 @@ IsReadAs failed name (Err (Refused named line reason)) held = IsRefused name hel
 IsReadAs failed name (Err (Served how)) held = ⊥
 IsReadAs failed name (Err (Reported report)) held = ⊥
 IsReadAs failed name (Err (Cut report)) held = ⊥
+IsReadAs failed name (Err WriteFailed) held = ⊥
 
 -- what was read, with what an ending tells in place of it
 abbrev pub read_as : {A : Type 0} → Result A Ending → Result A Ended
@@ -74,3 +75,4 @@ IsOfFile (Refused named line reason) = Unit {0}
 IsOfFile (Served how) = ⊥
 IsOfFile (Reported report) = ⊥
 IsOfFile (Cut report) = ⊥
+IsOfFile WriteFailed = ⊥

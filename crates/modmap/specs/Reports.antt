@@ -7,7 +7,7 @@ use Rattle.histories.specs.declared.illegal_reason.IllegalReason.{IllegalReason}
 use Rattle.histories.specs.Reasons.{illegal_text}
 use Rattle.histories.specs.Histories.{first_fault}
 use Rattle.trace_text.specs.declared.trace.Trace.{Trace}
-use Rattle.modmap.specs.Endings.{Report, Ended, BadWords, OutOfMemory, CannotRead, FileTooLong, Refused, Served, Reported, Cut, Speaks, HasSinkCause, status_of}
+use Rattle.modmap.specs.Endings.{Report, Ended, BadWords, OutOfMemory, CannotRead, FileTooLong, Refused, Served, Reported, Cut, WriteFailed, Speaks, HasSinkCause, status_of}
 use Rattle.modmap.specs.ProjectFiles.{FindsProject}
 use Rattle.modmap.specs.declared.sources.Sources.{Sources}
 use Rattle.modmap.specs.TraceFiles.{FindsTrace}
@@ -75,6 +75,7 @@ module _ (failed : Type 0) (before now : Option Lookup) where
   ReportsSo reports (Served how) project_name trace_name = ⊥
   ReportsSo reports (Reported report) project_name trace_name = IsReportOf reports project_name trace_name report
   ReportsSo reports (Cut report) project_name trace_name = IsReportOf reports project_name trace_name report
+  ReportsSo reports WriteFailed project_name trace_name = ⊥
 
   -- a command that reports on the two files ended with this status, and printed what belongs to its ending
   pub record RunsReport (reports : ProjectView → Trace → Report) (project_name trace_name : List ℕ) (faults_before faults_now : ℕ) (out_before out_now : Option (List ℕ)) (status : ℕ) : Type 0 where

@@ -1,5 +1,5 @@
 -- What a run of the program comes to.
-use Rattle.std.specs.Prelude.{◌≡◌, ℕ, ◌+◌, ◌≤◌, ◌⊎◌, List, map, length, Option, None, IfSome, IsSomeAnd, String, string_bytes, Result, Ok, Err}
+use Rattle.std.specs.Prelude.{◌≡◌, ◌≢◌, ℕ, ◌+◌, ◌≤◌, ◌⊎◌, List, All, map, length, Option, None, IfSome, IsSomeAnd, String, string_bytes, Result, Ok, Err}
 use Rattle.std.specs.declared.alloc.Global.{Global}
 use Rattle.mm_outside.specs.Causes.{Rose}
 use Rattle.mm_outside.specs.Files.{Lookup}
@@ -10,8 +10,10 @@ use Rattle.unit_registry.specs.Projects.{ProjectView}
 use Rattle.connection_core.specs.Asking.{acts}
 use Rattle.connection_core.specs.Ends.{HasCauses}
 use Rattle.trace_text.specs.declared.trace.Trace.{Trace}
-use Rattle.modmap.specs.Commands.{Task, Pipe, Check, Replay, AsksFor}
-use Rattle.modmap.specs.Endings.{Ended, BadWords, OutOfMemory, CannotRead, FileTooLong, Refused, Served, Reported, Cut, Report, status_of, message_of, Prints, Speaks, HasSinkCause}
+use Rattle.modmap.specs.Commands.{Task, Pipe, Check, Replay, ListUnits, Generate, AsksFor}
+use Rattle.modmap.specs.Endings.{Ended, BadWords, OutOfMemory, CannotRead, FileTooLong, Refused, Served, Reported, Cut, WriteFailed, Report, status_of, message_of, Prints, Speaks, HasSinkCause}
+use Rattle.modmap.specs.Generating.{GeneratesSo, generated_files}
+use Rattle.modmap.specs.ListRuns.{HoldsAll, IsUnitFile, ListsSo}
 use Rattle.modmap.specs.ProjectFiles.{DeclaresProject, FindsProject}
 use Rattle.modmap.specs.Reports.{ReportsSo, check_report}
 use Rattle.modmap.specs.Replays.{replay_report}
@@ -31,6 +33,8 @@ pub record Outside (L : Type 0) : Type 0 where
   pub files_now : Option Lookup
   pub file_reads_before : ℕ
   pub file_reads_now : ℕ
+  pub file_writes_before : ℕ
+  pub file_writes_now : ℕ
   pub link_reads_before : ℕ
   pub link_reads_now : ℕ
   pub link_writes_before : ℕ
@@ -68,10 +72,21 @@ module _ {L : Type 0} (outside : Outside L) where
   Pipes (Served how) name entries = ServesProject name entries how
   Pipes (Reported report) name entries = ⊥
   Pipes (Cut report) name entries = ⊥
+  Pipes WriteFailed name entries = ⊥
 
   -- what a report over these two files comes to, by its ending; the link is as it was
   pub record ReportsAside (reports : ProjectView → Trace → Report) (ended : Ended) (project_name trace_name : List ℕ) : Type 0 where
     pub reports_so : ReportsSo (Rose outside.file_reads_before outside.file_reads_now) outside.files_before outside.files_now reports ended project_name trace_name
+    pub link : outside.link_now ≡ outside.link_before
+
+  -- what a report on the units of this project file comes to, by its ending; the link is as it was
+  pub record ListsAside (ended : Ended) (name : List ℕ) : Type 0 where
+    pub lists_so : ListsSo (Rose outside.file_reads_before outside.file_reads_now) outside.files_before outside.files_now name ended
+    pub link : outside.link_now ≡ outside.link_before
+
+  -- what generating a project in this folder comes to, by its ending; the link is as it was
+  pub record GeneratesAside (ended : Ended) (folder : List ℕ) (units seed : ℕ) : Type 0 where
+    pub generates_so : GeneratesSo (Rose outside.file_writes_before outside.file_writes_now) outside.files_before outside.files_now folder units seed ended
     pub link : outside.link_now ≡ outside.link_before
 
   -- a task was done to this ending
@@ -79,6 +94,8 @@ module _ {L : Type 0} (outside : Outside L) where
   DoesTask (Pipe project entries) ended = Pipes ended project entries
   DoesTask (Check project trace) ended = ReportsAside check_report ended project trace
   DoesTask (Replay project trace) ended = ReportsAside replay_report ended project trace
+  DoesTask (ListUnits project) ended = ListsAside ended project
+  DoesTask (Generate folder units seed) ended = GeneratesAside ended folder units seed
 
   -- what the words ask for, done to this ending
   pub data Does (words : List (String Global)) (ended : Ended) : Type 0 where
@@ -124,18 +141,20 @@ pub record IsAllThere (words : List (String Global)) (files : Option Lookup) (li
   pub file : IsSomeAnd files (λ content. DeclaresProject (content name) project)
   pub input : IsSomeAnd link (IsWhole project entries)
 
--- the files that a task reads
-abbrev pub IsReadBy : Task → List ℕ → Type 0
-IsReadBy (Pipe project entries) name = name ≡ project
-IsReadBy (Check project trace) name = (name ≡ project) ⊎ (name ≡ trace)
-IsReadBy (Replay project trace) name = (name ≡ project) ⊎ (name ≡ trace)
+-- the files that a task reads, as far as the files tell which these are
+abbrev pub IsReadBy : Option Lookup → Task → List ℕ → Type 0
+IsReadBy files (Pipe project entries) name = name ≡ project
+IsReadBy files (Check project trace) name = (name ≡ project) ⊎ (name ≡ trace)
+IsReadBy files (Replay project trace) name = (name ≡ project) ⊎ (name ≡ trace)
+IsReadBy files (ListUnits project) name = (name ≡ project) ⊎ IsSomeAnd files (λ content. IsUnitFile (content project) name)
+IsReadBy files (Generate folder units seed) name = ⊥
 
 -- a file that the words ask to read is absent, as far as the files tell
 pub record LacksFile (words : List (String Global)) (files : Option Lookup) : Type 0 where
   pub task : Task
   pub asks : AsksFor (map string_bytes words) task
   pub name : List ℕ
-  pub is_read : IsReadBy task name
+  pub is_read : IsReadBy files task name
   pub absent : IfSome files (λ content. content name ≡ None)
 
 -- a report over a project file and a trace's file is asked for
@@ -151,3 +170,28 @@ pub record AreBothThere (words : List (String Global)) (files : Option Lookup) :
   pub trace : Trace
   pub project_file : IsSomeAnd files (λ content. DeclaresProject (content project_name) project)
   pub trace_file : IsSomeAnd files (λ content. HoldsTrace (content trace_name) trace)
+
+-- a report on the units of a project is asked for, and nothing hinders it
+pub record AreUnitsThere (words : List (String Global)) (files : Option Lookup) : Type 0 where
+  pub name : List ℕ
+  pub asks : AsksFor (map string_bytes words) (ListUnits name)
+  pub holds : IsSomeAnd files (HoldsAll name)
+
+-- a generated project is asked for
+pub record AsksToWrite (words : List (String Global)) : Type 0 where
+  pub folder : List ℕ
+  pub units : ℕ
+  pub seed : ℕ
+  pub asks : AsksFor (map string_bytes words) (Generate folder units seed)
+
+-- a task isn't to write the file of this name
+abbrev pub IsSparedBy : Task → List ℕ → Type 0
+IsSparedBy (Pipe project entries) name = Unit {0}
+IsSparedBy (Check project trace) name = Unit {0}
+IsSparedBy (Replay project trace) name = Unit {0}
+IsSparedBy (ListUnits project) name = Unit {0}
+IsSparedBy (Generate folder units seed) name = All (λ file. name ≢ file.name) (generated_files folder units seed)
+
+-- each file is as it was, but for those that the words ask to write
+abbrev pub KeepsOthers : List (String Global) → Lookup → Lookup → Type 0
+KeepsOthers words before now = (name : List ℕ) → ((task : Task) → AsksFor (map string_bytes words) task → IsSparedBy task name) → now name ≡ before name

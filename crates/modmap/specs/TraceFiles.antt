@@ -6,7 +6,7 @@ use Rattle.trace_text.specs.declared.trace.Trace.{Trace}
 use Rattle.trace_text.specs.Faults.{IsTraceText, IsFault}
 use Rattle.trace_text.specs.Texts.{IsHead, IsTraceEntry}
 use Rattle.trace_text.specs.Reasons.{reason_text}
-use Rattle.modmap.specs.Endings.{Ended, BadWords, OutOfMemory, CannotRead, FileTooLong, Refused, Served, Reported, Cut}
+use Rattle.modmap.specs.Endings.{Ended, BadWords, OutOfMemory, CannotRead, FileTooLong, Refused, Served, Reported, Cut, WriteFailed}
 use Rattle.modmap.specs.ProjectFiles.{IsUnreadable, IsTooLong}
 
 -- the most octets that the file of a trace may have
@@ -47,6 +47,7 @@ IsTraceReadAs failed name (Err (Refused named line reason)) held = IsNoTrace nam
 IsTraceReadAs failed name (Err (Served how)) held = ⊥
 IsTraceReadAs failed name (Err (Reported report)) held = ⊥
 IsTraceReadAs failed name (Err (Cut report)) held = ⊥
+IsTraceReadAs failed name (Err WriteFailed) held = ⊥
 
 -- the file of this name was read as this, and no file changed
 pub record FindsTrace (failed : Type 0) (name : List ℕ) (result : Result Trace Ended) (old new : Lookup) : Type 0 where

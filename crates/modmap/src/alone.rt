@@ -5,12 +5,14 @@ ghost use Rattle.mm_outside.specs.Causes.{Rose};
 ghost use Rattle.mm_outside.specs.Told.{Told};
 ghost use Rattle.cody_words.specs.Canonical.{word_room};
 ghost use Rattle.modmap.specs.Endings.{BadWords, OutOfMemory, message_of, message_room, status_of, told_by, Prints};
-ghost use Rattle.modmap.specs.Commands.{task_of, AsksFor};
-ghost use Rattle.modmap.specs.Running.{AreBothThere, AsksNothing, IsAllThere, LacksFile, Pipes, Runs, RunsPipe, RunsTask};
+ghost use Rattle.modmap.specs.Commands.{Generate, task_of, AsksFor};
+ghost use Rattle.modmap.specs.Running.{AreBothThere, AreUnitsThere, AsksNothing, AsksToWrite, IsAllThere, KeepsOthers, LacksFile, Pipes, Runs, RunsPipe, RunsTask};
 
 use crate::check::run_check;
 use crate::command::Command;
 use crate::ending::Ending;
+use crate::generator::run_gen;
+use crate::list::run_list;
 use crate::pipe::pipe;
 use crate::project_file::read_project;
 use crate::replay::run_replay;
@@ -36,6 +38,8 @@ fn serve_project<'a, F: Files, L: Link>(
       files_now = F.content files.new;
       file_reads_before = F.read_faults files.old;
       file_reads_now = F.read_faults files.new;
+      file_writes_before = F.write_faults files.old;
+      file_writes_now = F.write_faults files.new;
       link_reads_before = L.read_faults link.old;
       link_reads_now = L.read_faults link.new;
       link_writes_before = L.write_faults link.old;
@@ -73,6 +77,8 @@ fn run_pipe<F: Files, L: Link, K: Sink>(
       files_now = F.content files.new;
       file_reads_before = F.read_faults files.old;
       file_reads_now = F.read_faults files.new;
+      file_writes_before = F.write_faults files.old;
+      file_writes_now = F.write_faults files.new;
       link_reads_before = L.read_faults link.old;
       link_reads_now = L.read_faults link.new;
       link_writes_before = L.write_faults link.old;
@@ -108,25 +114,33 @@ fn run_command<F: Files, L: Link, K: Sink>(
       files_now = F.content files.new;
       file_reads_before = F.read_faults files.old;
       file_reads_now = F.read_faults files.new;
+      file_writes_before = F.write_faults files.old;
+      file_writes_now = F.write_faults files.new;
       link_reads_before = L.read_faults link.old;
       link_reads_now = L.read_faults link.new;
       link_writes_before = L.write_faults link.old;
       link_writes_now = L.write_faults link.new;
     })
         (task_of command.entry) (K.faults out.old) (K.faults out.new) (K.written out.old) (K.written out.new) result }
-    ensures files { F.write_faults files.new ≡ F.write_faults files.old }
+    ensures files { ((folder : List ℕ) (units seed : ℕ) → task_of command.entry ≡ Generate folder units seed → ⊥) → F.write_faults files.new ≡ F.write_faults files.old }
 {
     match command {
         Command::Pipe { project, entries } => run_pipe(alloc, project, entries, files, link, out),
         Command::Check { project, trace } => run_check(alloc, project, trace, files, out),
         Command::Replay { project, trace } => run_replay(alloc, project, trace, files, out),
+        Command::List { project } => run_list(alloc, project, files, out),
+        Command::Gen {
+            folder,
+            units,
+            seed,
+        } => run_gen(alloc, folder, units, seed, files, out),
     }
 }
 
 /// Runs the program over one link: `words` are the command line without the program's name, `files` hold the files
 /// that it names, `link` is what the command `pipe` serves, and `out` takes reports and messages. It answers the exit status: 0 all done,
-/// 1 a trace isn't legal, 2 bad words, 3 want of memory before the link was touched, 4 a file is absent or a read of it or
-/// of the link failed, 5 a write of the link or of a report failed, 6 a file is refused or too long, 7 the input ended
+/// 1 a trace isn't legal or a unit failed, 2 bad words, 3 want of memory before the link was touched, 4 a file is absent or
+/// a read of it or of the link failed, 5 a write of the link, of a file or of a report failed, 6 a file is refused or too long, 7 the input ended
 /// inside a block, 8 the input or a block was too long, 9 the history is full. The statuses are this project's own.
 pub fn run_alone<R, F: Files, L: Link, K: Sink>(
     _rt: &R,
@@ -144,6 +158,8 @@ pub fn run_alone<R, F: Files, L: Link, K: Sink>(
       files_now = F.content files.new;
       file_reads_before = F.read_faults files.old;
       file_reads_now = F.read_faults files.new;
+      file_writes_before = F.write_faults files.old;
+      file_writes_now = F.write_faults files.new;
       link_reads_before = L.read_faults link.old;
       link_reads_now = L.read_faults link.new;
       link_writes_before = L.write_faults link.old;
@@ -153,8 +169,11 @@ pub fn run_alone<R, F: Files, L: Link, K: Sink>(
     ensures words { (result ≡ 2) ↔ AsksNothing words.now }
     ensures untouched { (result ≡ 2) ⊎ ((result ≡ 3) ⊎ (result ≡ 6)) → link.new ≡ link.old }
     ensures read_fault { result ≡ 4 → LacksFile words.now (F.content files.old) ⊎ Rose (F.read_faults files.old) (F.read_faults files.new) ⊎ Rose (L.read_faults link.old) (L.read_faults link.new) }
-    ensures write_fault { result ≡ 5 → Rose (L.write_faults link.old) (L.write_faults link.new) ⊎ Rose (K.faults out.old) (K.faults out.new) }
-    ensures files { F.write_faults files.new ≡ F.write_faults files.old }
+    ensures write_fault { result ≡ 5 → Rose (L.write_faults link.old) (L.write_faults link.new) ⊎ Rose (F.write_faults files.old) (F.write_faults files.new) ⊎ Rose (K.faults out.old) (K.faults out.new) }
+
+    // Only `gen` writes files, and no others than those of its project.
+    ensures others { Told (KeepsOthers words.now) (F.content files.old) (F.content files.new) }
+    ensures files { ¬ (AsksToWrite words.now) → F.write_faults files.new ≡ F.write_faults files.old }
 
     // Where all is there and nothing fails, all is served, unless memory runs out before.
     ensures complete { IsAllThere words.now (F.content files.old) (L.octets link.old) → ¬ (Rose (F.read_faults files.old) (F.read_faults files.new)) → ¬ (Rose (L.read_faults link.old) (L.read_faults link.new))
@@ -163,6 +182,15 @@ pub fn run_alone<R, F: Files, L: Link, K: Sink>(
     // Where both files of a report are there and nothing fails, it is printed whole, unless memory runs out before.
     ensures reports { AreBothThere words.now (F.content files.old) → ¬ (Rose (F.read_faults files.old) (F.read_faults files.new)) → ¬ (Rose (K.faults out.old) (K.faults out.new))
         → (result ≡ 0) ⊎ ((result ≡ 1) ⊎ (result ≡ 3)) }
+
+    // Where all files of a project are there and are taken, and nothing fails, the report on its units is printed whole,
+    // unless memory runs out before.
+    ensures lists { AreUnitsThere words.now (F.content files.old) → ¬ (Rose (F.read_faults files.old) (F.read_faults files.new)) → ¬ (Rose (K.faults out.old) (K.faults out.new))
+        → (result ≡ 0) ⊎ ((result ≡ 1) ⊎ (result ≡ 3)) }
+
+    // Where no write fails, a project is generated whole, unless memory runs out before.
+    ensures generates { AsksToWrite words.now → ¬ (Rose (F.write_faults files.old) (F.write_faults files.new)) → ¬ (Rose (K.faults out.old) (K.faults out.new))
+        → (result ≡ 0) ⊎ (result ≡ 3) }
 {
     match Command::read(words) {
         Some(command) => run_command(alloc, command, files, link, out),

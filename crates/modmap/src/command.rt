@@ -1,8 +1,9 @@
 //! The commands, as words of the command line.
 
 ghost use Rattle.std.specs.Prelude.{◌≡◌, ◌≢◌, ◌<◌, ◌^◌, ◌∷◌, [], ℕ, List, None, decimal, map, string_bytes, IfSome};
-ghost use Rattle.modmap.specs.Commands.{Check, Replay, task_of, AsksAs, AsksFor, AsksOfTrace, AsksPipe, IsEntries};
+ghost use Rattle.modmap.specs.Commands.{Check, Replay, task_of, AsksAs, AsksFor, AsksOfTrace, AsksPipe, AsksToGenerate, AsksToList, IsEntries};
 
+use crate::askings::{read_gen, read_list};
 use crate::verb::Verb;
 use mapper_requests::read_decimal;
 
@@ -39,12 +40,27 @@ pub enum Command<'a> {
         /// The name of the trace's file.
         trace: &'a [u8],
     },
+    /// `list PROJECT`: compiles the units of a project one by one, and reports on them.
+    List {
+        /// The name of the project file.
+        project: &'a [u8],
+    },
+    /// `gen FOLDER UNITS SEED`: writes a generated project.
+    Gen {
+        /// The folder of the project.
+        folder: &'a [u8],
+        /// How many units it is to have.
+        units: u32,
+        /// The number that its draws begin with.
+        seed: u32,
+    },
 }
 
 impl<'a> Command<'a> {
     /// The command that the words are, without the program's name; `None` where they are of no form:
-    /// `pipe PROJECT [ENTRIES]` with ENTRIES from 3 to 1,048,576, decimal without leading zeros,
-    /// `check PROJECT TRACE`, or `replay PROJECT TRACE`. The forms are this project's own.
+    /// `pipe PROJECT [ENTRIES]` with ENTRIES from 3 to 1,048,576, decimal without leading zeros, `check PROJECT TRACE`,
+    /// `replay PROJECT TRACE`, `list PROJECT`, or `gen FOLDER UNITS SEED` with a FOLDER of 1 to 400 octets, none below 0x20
+    /// and none 0x7f, UNITS from 1 to 2,000 and SEED from 0 to 2,147,483,647. The forms are this project's own.
     pub fn read(words: &'a [String]) -> Option<Command<'a>>
         ensures asked { IfSome result (λ command. AsksFor (map string_bytes words.now) (task_of command)) }
         ensures none { result ≡ None → (task : _) → AsksFor (map string_bytes words.now) task → ⊥ }
@@ -68,6 +84,8 @@ fn read_behind(verb: Verb, words: &[String]) -> Option<Command<'_>>
         Verb::Pipe => read_pipe(words),
         Verb::Check => read_check(words),
         Verb::Replay => read_replay(words),
+        Verb::List => list_command(words),
+        Verb::Gen => gen_command(words),
     }
 }
 
@@ -96,6 +114,32 @@ fn read_replay(words: &[String]) -> Option<Command<'_>>
             trace: trace.as_bytes(),
         }),
         _ => None,
+    }
+}
+
+/// The command `list` with these words behind it.
+fn list_command(words: &[String]) -> Option<Command<'_>>
+    ensures asked { IfSome result (λ command. AsksToList (map string_bytes words.now) (task_of command)) }
+    ensures none { result ≡ None → (task : _) → AsksToList (map string_bytes words.now) task → ⊥ }
+{
+    match read_list(words) {
+        Some(project) => Some(Command::List { project }),
+        None => None,
+    }
+}
+
+/// The command `gen` with these words behind it.
+fn gen_command(words: &[String]) -> Option<Command<'_>>
+    ensures asked { IfSome result (λ command. AsksToGenerate (map string_bytes words.now) (task_of command)) }
+    ensures none { result ≡ None → (task : _) → AsksToGenerate (map string_bytes words.now) task → ⊥ }
+{
+    match read_gen(words) {
+        Some(asked) => Some(Command::Gen {
+            folder: asked.folder,
+            units: asked.units,
+            seed: asked.seed,
+        }),
+        None => None,
     }
 }
 

@@ -1,5 +1,5 @@
-//! A C++20 module mapper server over the libcody protocol. Today it serves one link, over standard input and output, and
-//! checks and replays traces.
+//! A C++20 module mapper server over the libcody protocol. Today it serves one link, over standard input and output, checks
+//! and replays traces, compiles the units of a project one by one with a report, and generates projects.
 #![tactic(auto)]
 
 ghost use Rattle.std.specs.Prelude.{◌↔◌, IsTrue};
@@ -7,11 +7,18 @@ ghost use Rattle.modmap.specs.Commands.{BeginsWithPipe};
 
 mod adapters;
 mod alone;
+mod askings;
 mod check;
 mod command;
 mod disk;
 mod ending;
+#[cfg(test)]
+mod gen_tests;
+mod generator;
 mod held;
+mod list;
+#[cfg(test)]
+mod list_tests;
 mod pipe;
 mod project_file;
 mod replay;
@@ -24,6 +31,7 @@ mod tests;
 mod trace_file;
 #[cfg(test)]
 mod trace_tests;
+mod unit_files;
 mod verb;
 
 use adapters::{Pipe, WriterSink};

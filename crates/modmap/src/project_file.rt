@@ -1,11 +1,12 @@
 //! Reading a project file.
 
-ghost use Rattle.std.specs.Prelude.{◌≡◌, ◌≤◌, ◌+◌, Some, length, IfErr};
+ghost use Rattle.std.specs.Prelude.{◌≡◌, ◌≤◌, ◌+◌, Some, length, IfErr, IfOk};
 ghost use Rattle.mm_outside.specs.Causes.{Rose};
 ghost use Rattle.mm_outside.specs.Told.{Told};
 ghost use Rattle.cody_words.specs.Canonical.{word_room};
 ghost use Rattle.unit_registry.specs.Reasons.{reason_text};
 ghost use Rattle.modmap.specs.Endings.{message_room, told_by};
+ghost use Rattle.modmap.specs.ListRuns.{IsDeclared};
 ghost use Rattle.modmap.specs.ProjectFiles.{FindsProject, IsOfFile, IsReadAs, most_project_octets, read_as};
 
 use crate::ending::Ending;
@@ -28,6 +29,7 @@ fn reason_text(reason: ProjectReason) -> &'static [u8]
 fn parse_project<'a>(alloc: Global, name: &'a [u8], text: &[u8]) -> Result<Project, Ending<'a>>
     requires { length text.now ≤ most_project_octets }
     ensures read { IsReadAs ⊥ name.now (read_as result) (Some text.now) }
+    ensures declared { IfOk result IsDeclared }
     ensures kind { IfErr result (λ ending. IsOfFile (told_by ending)) }
     ensures room { IfErr result (λ ending. message_room (told_by ending) ≤ word_room name.now + 80) }
 {
@@ -49,6 +51,7 @@ pub fn read_project<'a, F: Files>(
     name: &'a [u8],
 ) -> Result<Project, Ending<'a>>
     ensures content { Told (FindsProject (Rose (F.read_faults files.old) (F.read_faults files.new)) name.now (read_as result)) (F.content files.old) (F.content files.new) }
+    ensures declared { IfOk result IsDeclared }
     ensures kind { IfErr result (λ ending. IsOfFile (told_by ending)) }
     ensures room { IfErr result (λ ending. message_room (told_by ending) ≤ word_room name.now + 80) }
     ensures read_faults { F.read_faults files.old ≤ F.read_faults files.new }

@@ -13,10 +13,14 @@ pub enum Verb {
     Check,
     /// `replay`
     Replay,
+    /// `list`
+    List,
+    /// `gen`
+    Gen,
 }
 
 /// The verbs.
-const VERBS: [Verb; 3] = [Verb::Pipe, Verb::Check, Verb::Replay];
+const VERBS: [Verb; 5] = [Verb::Pipe, Verb::Check, Verb::Replay, Verb::List, Verb::Gen];
 
 impl Verb {
     /// The verb that the word is, if it is one.
@@ -34,6 +38,8 @@ impl Verb {
             Verb::Pipe => b"pipe",
             Verb::Check => b"check",
             Verb::Replay => b"replay",
+            Verb::List => b"list",
+            Verb::Gen => b"gen",
         }
     }
 }

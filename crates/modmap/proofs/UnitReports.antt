@@ -1,0 +1,212 @@
+-- What holds of a report on the units of a project, by its ending.
+use Rattle.std.proofs.Common.{◌≡◌, ◌≢◌, ◌⊎◌, inl, inr, ℕ, ◌≤◌, ◌<◌, Bool, true, false, List, length, map, Option, Some, None, Err, refl, sym, ap, subst, ◌∙◌, arith}
+use Rattle.std.specs.Prelude.{IsSomeAnd, String, string_bytes, if◌then◌else◌}
+use Rattle.std.specs.declared.alloc.Global.{Global}
+use Rattle.mm_outside.specs.Causes.{Rose}
+use Rattle.mm_outside.specs.Files.{Lookup}
+use Rattle.mm_outside.specs.Told.{Told}
+use Rattle.mm_outside.proofs.ToldLemmas.{Told-map}
+use Rattle.unit_registry.specs.Projects.{ProjectView, unit_count, is_built, name_of}
+use Rattle.export_lists.specs.declared.cmi.Cmi.{Cmi}
+use Rattle.export_lists.specs.CmiFaults.{IsCmiText}
+use Rattle.export_lists.proofs.CmiLaws.{no_fault, one_cmi}
+use Rattle.modmap.specs.Commands.{ListUnits, AsksFor}
+use Rattle.modmap.specs.Endings.{Report, Ended, BadWords, OutOfMemory, CannotRead, FileTooLong, Refused, Served, Reported, Cut, WriteFailed, EndsIn, HasSinkCause, status_of}
+use Rattle.modmap.specs.ProjectFiles.{DeclaresProject, IsOfFile, IsReadAs}
+use Rattle.modmap.specs.ListRuns.{HoldsWithin, HoldUnits, HoldsAll, IsNoCmiOf, Stay, StopsAt, ListsSo, reported, refused, no_memory, unreadable, too_long, RefusesList, RefusesUnit, as_file, as_cmi, not_a_cmi, other_unit, file_by, most_by, unit_file, most_cmi_octets}
+use Rattle.modmap.specs.Running.{LacksFile}
+use Rattle.modmap.proofs.Complete.{not_refused, same_project, same_some}
+
+-- ---- statuses
+
+-- the status of a report
+abbrev status_by : Bool → ℕ
+status_by good = if good then 0 else 1
+
+report_status : (good : Bool) → (status_by good ≡ 0) ⊎ (status_by good ≡ 1)
+report_status true = inl refl
+report_status false = inr refl
+
+-- an ending with a report has status 0, 1 or 5, the last where it was cut short
+in_report : (report : Report) (ended : Ended) → EndsIn report ended → (status_of ended ≡ 0) ⊎ ((status_of ended ≡ 1) ⊎ ((status_of ended ≡ 5) × (ended ≡ Cut report)))
+in_report report ended (inl e) = by (report_status report.good)
+  where
+    by : (status_of (Reported report) ≡ 0) ⊎ (status_of (Reported report) ≡ 1) → (status_of ended ≡ 0) ⊎ ((status_of ended ≡ 1) ⊎ ((status_of ended ≡ 5) × (ended ≡ Cut report)))
+    by (inl zero_is) = inl (ap status_of e ∙ zero_is)
+    by (inr one) = inr (inl (ap status_of e ∙ one))
+in_report report ended (inr e) = inr (inr (ap status_of e, e))
+
+-- an ending that a file brings has status 3, 4 or 6
+of_file : (ended : Ended) → IsOfFile ended → (status_of ended ≡ 3) ⊎ ((status_of ended ≡ 4) ⊎ (status_of ended ≡ 6))
+of_file BadWords kind = absurd kind
+of_file OutOfMemory kind = inl refl
+of_file (CannotRead named) kind = inr (inl refl)
+of_file (FileTooLong named) kind = inr (inr refl)
+of_file (Refused named line reason) kind = inr (inr refl)
+of_file (Served how) kind = absurd kind
+of_file (Reported report) kind = absurd kind
+of_file (Cut report) kind = absurd kind
+of_file WriteFailed kind = absurd kind
+
+-- one number isn't two
+differ : (n a b : ℕ) → (a ≡ b → ⊥) → n ≡ a → n ≡ b → ⊥
+differ n a b apart e d = apart (sym e ∙ d)
+
+module _ (failed : Type 0) (before now : Option Lookup) (name : List ℕ) where
+  -- it never ends as words of no form do
+  pub list_two : (ended : Ended) → ListsSo failed before now name ended → status_of ended ≢ 2
+  list_two ended (reported project sources built outcomes told listing ends) two = by (in_report _ ended ends)
+    where
+      by : {X : Type 0} → (status_of ended ≡ 0) ⊎ ((status_of ended ≡ 1) ⊎ ((status_of ended ≡ 5) × X)) → ⊥
+      by (inl e) = omega (arith, e, two)
+      by (inr (inl e)) = omega (arith, e, two)
+      by (inr (inr both)) = differ (status_of ended) 5 2 (λ e. omega (arith, e)) both.0 two
+  list_two ended (refused kind told) two = by (of_file ended kind)
+    where
+      by : (status_of ended ≡ 3) ⊎ ((status_of ended ≡ 4) ⊎ (status_of ended ≡ 6)) → ⊥
+      by (inl e) = omega (arith, e, two)
+      by (inr (inl e)) = omega (arith, e, two)
+      by (inr (inr e)) = omega (arith, e, two)
+
+  -- why it ends with 5
+  pub list_five : (ended : Ended) (b n : ℕ) → ListsSo failed before now name ended → HasSinkCause ended b n → status_of ended ≡ 5 → Rose b n
+  list_five ended b n (reported project sources built outcomes told listing ends) cause five = by _ (in_report _ ended ends)
+    where
+      by : (report : Report) → (status_of ended ≡ 0) ⊎ ((status_of ended ≡ 1) ⊎ ((status_of ended ≡ 5) × (ended ≡ Cut report))) → Rose b n
+      by report (inl e) = absurd (differ (status_of ended) 0 5 (λ d. omega (arith, d)) e five)
+      by report (inr (inl e)) = absurd (differ (status_of ended) 1 5 (λ d. omega (arith, d)) e five)
+      by report (inr (inr both)) = subst (λ e. HasSinkCause e b n) both.1 cause
+  list_five ended b n (refused kind told) cause five = absurd (by (of_file ended kind))
+    where
+      by : (status_of ended ≡ 3) ⊎ ((status_of ended ≡ 4) ⊎ (status_of ended ≡ 6)) → ⊥
+      by (inl e) = differ (status_of ended) 3 5 (λ d. omega (arith, d)) e five
+      by (inr (inl e)) = differ (status_of ended) 4 5 (λ d. omega (arith, d)) e five
+      by (inr (inr e)) = differ (status_of ended) 6 5 (λ d. omega (arith, d)) e five
+
+  -- no file changes
+  pub list_stays : (ended : Ended) → ListsSo failed before now name ended → Told (λ (old new : Lookup). new ≡ old) before now
+  list_stays ended (reported project sources built outcomes told listing ends) = Told-map (λ x y stay. stay.same) told
+  list_stays ended (refused kind told) = Told-map (λ x y stay. stay.same) told
+
+  -- ---- a file that can't be read
+
+  no_project : (ended : Ended) (content : Lookup) → status_of ended ≡ 4 → IsReadAs failed name (Err ended) (content name) → (content name ≡ None) ⊎ failed
+  no_project BadWords content four read = absurd read
+  no_project OutOfMemory content four read = absurd (omega (arith, four))
+  no_project (CannotRead named) content four read = read.cause
+  no_project (FileTooLong named) content four read = absurd (omega (arith, four))
+  no_project (Refused named line reason) content four read = absurd (omega (arith, four))
+  no_project (Served how) content four read = absurd read
+  no_project (Reported report) content four read = absurd read
+  no_project (Cut report) content four read = absurd read
+  no_project WriteFailed content four read = absurd read
+
+  no_unit : (project : ProjectView) (unit : ℕ) (content : Lookup) (ended : Ended) → status_of ended ≡ 4 → RefusesUnit failed project unit content ended → (content (unit_file project unit) ≡ None) ⊎ failed
+  no_unit project unit content ended four (as_file (no_memory is)) = absurd (differ (status_of ended) 3 4 (λ d. omega (arith, d)) (ap status_of is) four)
+  no_unit project unit content ended four (as_file (unreadable is cause)) = cause
+  no_unit project unit content ended four (as_file (too_long text is held above)) = absurd (differ (status_of ended) 6 4 (λ d. omega (arith, d)) (ap status_of is) four)
+  no_unit project unit content ended four (as_cmi text is within (not_a_cmi line e faulty)) = absurd (differ (status_of ended) 6 4 (λ d. omega (arith, d)) (ap status_of e) four)
+  no_unit project unit content ended four (as_cmi text is within (other_unit cmi e reads differs)) = absurd (differ (status_of ended) 6 4 (λ d. omega (arith, d)) (ap status_of e) four)
+
+  -- why it ends with 4
+  pub list_four : (words : List (String Global)) (ended : Ended) → AsksFor (map string_bytes words) (ListUnits name) → ListsSo failed before now name ended → status_of ended ≡ 4 → LacksFile words before ⊎ failed
+  list_four words ended asks (reported project sources built outcomes told listing ends) four = absurd (by (in_report _ ended ends))
+    where
+      by : {X : Type 0} → (status_of ended ≡ 0) ⊎ ((status_of ended ≡ 1) ⊎ ((status_of ended ≡ 5) × X)) → ⊥
+      by (inl e) = differ (status_of ended) 0 4 (λ d. omega (arith, d)) e four
+      by (inr (inl e)) = differ (status_of ended) 1 4 (λ d. omega (arith, d)) e four
+      by (inr (inr both)) = differ (status_of ended) 5 4 (λ d. omega (arith, d)) both.0 four
+  list_four words ended asks (refused kind told) four = by before now told
+    where
+      project_lacks : (content : Lookup) → (content name ≡ None) ⊎ failed → LacksFile words (Some content) ⊎ failed
+      project_lacks content (inl absent) = inl (record { task = ListUnits name; asks = asks; name = name; is_read = inl refl; absent = absent })
+      project_lacks content (inr fault) = inr fault
+
+      unit_lacks : (content : Lookup) (project : ProjectView) (unit : ℕ) → DeclaresProject (content name) project → unit < unit_count project → (content (unit_file project unit) ≡ None) ⊎ failed → LacksFile words (Some content) ⊎ failed
+      unit_lacks content project unit declares lt (inl absent) = inl (record {
+        task = ListUnits name;
+        asks = asks;
+        name = unit_file project unit;
+        is_read = inr (record { project = project; declares = declares; unit = unit; declared = lt; name_is = refl });
+        absent = absent;
+      })
+      unit_lacks content project unit declares lt (inr fault) = inr fault
+
+      files : (content : Lookup) → RefusesList failed name ended content → LacksFile words (Some content) ⊎ failed
+      files content (inl read) = project_lacks content (no_project ended content four read)
+      files content (inr stop) = unit_lacks content stop.0 stop.2.unit stop.1 stop.2.declared (no_unit stop.0 stop.2.unit content ended four stop.2.refused)
+
+      by : (a b : Option Lookup) → Told (Stay (RefusesList failed name ended)) a b → LacksFile words a ⊎ failed
+      by None b told = inl (record { task = ListUnits name; asks = asks; name = name; is_read = inl refl; absent = tt })
+      by (Some content) None told = absurd told.so
+      by (Some content) (Some new) told = files content told.so.so
+
+-- ---- files that are there
+
+no_text : (text : List ℕ) → None ≡ Some text → ⊥
+no_text text e = cc
+
+beyond : (most m n : ℕ) → m ≡ n → m ≤ most → most < n → ⊥
+beyond most m n e le lt = omega (arith, e, le, lt)
+
+module _ (failed : Type 0) (none : failed → ⊥) where
+  project_taken : (name : List ℕ) (project : ProjectView) (ended : Ended) (held : Option (List ℕ)) → DeclaresProject held project → IsReadAs failed name (Err ended) held → ended ≡ OutOfMemory
+  project_taken name project BadWords held known read = absurd read
+  project_taken name project OutOfMemory held known read = refl
+  project_taken name project (CannotRead named) held known read = absurd (not_refused failed name project (CannotRead named) held none (λ e. cc) known read)
+  project_taken name project (FileTooLong named) held known read = absurd (not_refused failed name project (FileTooLong named) held none (λ e. cc) known read)
+  project_taken name project (Refused named line reason) held known read = absurd (not_refused failed name project (Refused named line reason) held none (λ e. cc) known read)
+  project_taken name project (Served how) held known read = absurd read
+  project_taken name project (Reported report) held known read = absurd read
+  project_taken name project (Cut report) held known read = absurd read
+  project_taken name project WriteFailed held known read = absurd read
+
+  module _ (project : ProjectView) (content : Lookup) (sources : List (List ℕ)) (built : List Cmi) (holds : HoldUnits project content (unit_count project) sources built) (unit : ℕ) (lt : unit < unit_count project) where
+    -- the text of a unit's file
+    file_there : (so : Bool) → is_built project unit ≡ so → (text : List ℕ) × HoldsWithin content (file_by so project unit) (most_by so) text
+    file_there true is = let i = holds.interface unit lt is in (i.holds.text, i.holds.holds)
+    file_there false is = let s = holds.source unit lt is in (s.text, s.holds)
+
+    -- it's that of an interface which is the unit's own
+    own_cmi : (text : List ℕ) (ended : Ended) → is_built project unit ≡ true → HoldsWithin content (unit_file project unit) most_cmi_octets text → IsNoCmiOf (unit_file project unit) (name_of project unit) text ended → ⊥
+    own_cmi text ended is within bad =
+        let i = holds.interface unit lt is in
+        let same : i.holds.text ≡ text = same_some i.holds.text text (sym i.holds.holds.held ∙ sym (ap (λ (so : Bool). content (file_by so project unit)) is) ∙ within.held) in
+        by i.cmi (subst (λ t. IsCmiText t i.cmi) same i.holds.reads) i.holds.named bad
+      where
+        by : (cmi : Cmi) → IsCmiText text cmi → cmi.unit ≡ name_of project unit → IsNoCmiOf (unit_file project unit) (name_of project unit) text ended → ⊥
+        by cmi reads named (not_a_cmi line e faulty) = no_fault text cmi line reads faulty
+        by cmi reads named (other_unit other e others differs) = differs (ap (λ (c : Cmi). c.unit) (one_cmi text other cmi others reads) ∙ named)
+
+    -- a unit's file that is there is taken, unless memory runs out
+    unit_taken : (ended : Ended) → RefusesUnit failed project unit content ended → ended ≡ OutOfMemory
+    unit_taken ended (as_file (no_memory is)) = is
+    unit_taken ended (as_file (unreadable is (inl absent))) = let there = file_there (is_built project unit) refl in absurd (no_text there.0 (sym absent ∙ there.1.held))
+    unit_taken ended (as_file (unreadable is (inr fault))) = absurd (none fault)
+    unit_taken ended (as_file (too_long text is held above)) =
+        let there = file_there (is_built project unit) refl in
+        absurd (beyond (most_by (is_built project unit)) (length there.0) (length text) (ap length (same_some there.0 text (sym there.1.held ∙ held))) there.1.within above)
+    unit_taken ended (as_cmi text is within bad) = absurd (own_cmi text ended is within bad)
+
+  all_taken : (name : List ℕ) (content : Lookup) (ended : Ended) → HoldsAll name content → RefusesList failed name ended content → ended ≡ OutOfMemory
+  all_taken name content ended known (inl read) = project_taken name known.project ended (content name) known.holds.declares read
+  all_taken name content ended known (inr stop) =
+      let same : stop.0 ≡ known.project = same_project (content name) stop.0 known.project stop.1 known.holds.declares in
+      let stops : StopsAt failed known.project content ended = subst (λ p. StopsAt failed p content ended) same stop.2 in
+      unit_taken known.project content known.sources known.built known.holds.holds stops.unit stops.declared ended stops.refused
+
+  told_taken : (name : List ℕ) (ended : Ended) (a b : Option Lookup) → IsSomeAnd a (HoldsAll name) → Told (Stay (RefusesList failed name ended)) a b → ended ≡ OutOfMemory
+  told_taken name ended None b known told = absurd known
+  told_taken name ended (Some content) None known told = absurd told.so
+  told_taken name ended (Some content) (Some new) known told = all_taken name content ended known told.so.so
+
+  -- where all files are there and are taken, and no write fails, the report is printed whole
+  pub list_whole : (name : List ℕ) (before now : Option Lookup) (ended : Ended) (b n : ℕ) → (Rose b n → ⊥) → HasSinkCause ended b n → IsSomeAnd before (HoldsAll name) → ListsSo failed before now name ended
+      → (status_of ended ≡ 0) ⊎ ((status_of ended ≡ 1) ⊎ (status_of ended ≡ 3))
+  list_whole name before now ended b n stood cause known (reported project sources built outcomes told listing ends) = by _ (in_report _ ended ends)
+    where
+      by : (report : Report) → (status_of ended ≡ 0) ⊎ ((status_of ended ≡ 1) ⊎ ((status_of ended ≡ 5) × (ended ≡ Cut report))) → (status_of ended ≡ 0) ⊎ ((status_of ended ≡ 1) ⊎ (status_of ended ≡ 3))
+      by report (inl e) = inl e
+      by report (inr (inl e)) = inr (inl e)
+      by report (inr (inr both)) = absurd (stood (subst (λ e. HasSinkCause e b n) both.1 cause))
+  list_whole name before now ended b n stood cause known (refused kind told) = inr (inr (ap status_of (told_taken name ended before now known told)))

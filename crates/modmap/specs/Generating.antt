@@ -1,0 +1,103 @@
+-- What `gen` comes to: the files of a generated project, written one after another.
+use Rattle.std.specs.Prelude.{◌≡◌, ◌≢◌, ℕ, suc, ◌+◌, ◌<◌, true, List, [], ◌∷◌, ◌++◌, All, length, take, Option, Some, Result, Ok, Err, codes, decimal}
+use Rattle.mm_outside.specs.Causes.{Rose}
+use Rattle.mm_outside.specs.Files.{Lookup}
+use Rattle.mm_outside.specs.Told.{Told}
+use Rattle.cody_words.specs.Buffers.{Buffer}
+use Rattle.export_lists.specs.Generated.{numbered, generated}
+use Rattle.export_lists.specs.declared.generated.Generated.{Generated}
+use Rattle.modmap.specs.Endings.{Ended, OutOfMemory, WriteFailed, Report, EndsIn, IsCut, Prints}
+
+-- ---- the files
+
+-- a text, and the name of the file that is to hold it
+pub record NamedText : Type 0 where
+  pub name : List ℕ
+  pub text : List ℕ
+
+-- the name of the project file in a folder
+abbrev pub project_name : List ℕ → List ℕ
+project_name folder = folder ++ codes "/project"
+
+-- the name of the source of a unit
+abbrev pub source_name : List ℕ → ℕ → List ℕ
+source_name folder number = folder ++ (numbered (codes "/u") number ++ codes ".cc")
+
+-- the sources, numbered from the first one's number on
+abbrev pub source_files : List ℕ → ℕ → List (List ℕ) → List NamedText
+source_files folder number [] = []
+source_files folder number (text ∷ texts) = record { name = source_name folder number; text = text } ∷ source_files folder (suc number) texts
+
+-- the files of a generated project, in the order in which they are written: the project file and then the sources
+abbrev pub files_of : List ℕ → Generated → List NamedText
+files_of folder project = record { name = project_name folder; text = project.project } ∷ source_files folder 0 project.sources
+
+-- the files of the project that is generated in a folder
+abbrev pub generated_files : List ℕ → ℕ → ℕ → List NamedText
+generated_files folder units seed = files_of folder (generated folder units seed)
+
+-- ---- writing them
+
+-- the files hold their texts, and no other name changed
+pub record HoldTexts (files : List NamedText) (before now : Lookup) : Type 0 where
+  pub held : All (λ file. now file.name ≡ Some file.text) files
+  pub others : (name : List ℕ) → All (λ file. name ≢ file.name) files → now name ≡ before name
+
+-- Writing stopped at one of the files: those before it hold their texts, it may hold anything, and no other name changed.
+pub record StopsWithin (files : List NamedText) (before now : Lookup) : Type 0 where
+  pub count : ℕ
+  pub within : count < length files
+  pub held : All (λ file. now file.name ≡ Some file.text) (take count files)
+  pub others : (name : List ℕ) → All (λ file. name ≢ file.name) (take (suc count) files) → now name ≡ before name
+
+-- at `Ok` all files were written, at a fault those before one of them
+abbrev pub WritesAll : {T E : Type 0} → Result T E → List NamedText → Lookup → Lookup → Type 0
+WritesAll (Ok _) files before now = HoldTexts files before now
+WritesAll (Err _) files before now = StopsWithin files before now
+
+-- ---- what is said
+
+-- how many files were written
+abbrev pub wrote_text : ℕ → List ℕ
+wrote_text count = codes "wrote " ++ decimal count ++ codes " files\n"
+
+-- the report that so many files were written
+abbrev pub wrote_report : ℕ → Report
+wrote_report count = record { text = wrote_text count; good = true }
+
+-- the room of a buffer, with what is taken of it
+abbrev pub capacity_of : Buffer → ℕ
+capacity_of buffer = buffer.spare + length buffer.octets
+
+-- what files and a sink tell before and after a run, and how often their writes have failed
+pub record Written : Type 0 where
+  pub files_before : Option Lookup
+  pub files_now : Option Lookup
+  pub file_writes_before : ℕ
+  pub file_writes_now : ℕ
+  pub out_before : Option (List ℕ)
+  pub out_now : Option (List ℕ)
+  pub out_writes_before : ℕ
+  pub out_writes_now : ℕ
+
+module _ (outside : Written) where
+  -- this message was printed, or a part of it where the sink failed
+  abbrev pub Says : List ℕ → Type 0
+  Says text = Told (Prints text outside.out_writes_before outside.out_writes_now) outside.out_before outside.out_now
+
+  -- What `gen` comes to, by its status: all files were written and their number said; or they were, and the sink failed; or
+  -- a write of a file failed, and no further file was written; or memory was wanted, before any file was written.
+  pub data RunsGen (folder : List ℕ) (units seed : ℕ) (status : ℕ) : Type 0 where
+    wrote : status ≡ 0 → Told (HoldTexts (generated_files folder units seed)) outside.files_before outside.files_now → Told (λ before now. now ≡ before ++ wrote_text (units + 1)) outside.out_before outside.out_now → RunsGen folder units seed status
+    unsaid : status ≡ 5 → Told (HoldTexts (generated_files folder units seed)) outside.files_before outside.files_now → Told (IsCut (wrote_text (units + 1))) outside.out_before outside.out_now → Rose outside.out_writes_before outside.out_writes_now → RunsGen folder units seed status
+    stopped : status ≡ 5 → Told (StopsWithin (generated_files folder units seed)) outside.files_before outside.files_now → Rose outside.file_writes_before outside.file_writes_now → Says (codes "modmap: write failed\n") → RunsGen folder units seed status
+    no_memory : status ≡ 3 → Told (λ before now. now ≡ before) outside.files_before outside.files_now → Says (codes "modmap: out of memory\n") → RunsGen folder units seed status
+
+module _ (failed : Type 0) (before now : Option Lookup) where
+  -- What `gen` comes to, by its ending: all files were written, and it ends with the report of their number; or a write of a
+  -- file failed, and no further file was written; or memory was wanted, before any file was written. `failed` says that a
+  -- write of a file failed.
+  pub data GeneratesSo (folder : List ℕ) (units seed : ℕ) (ended : Ended) : Type 0 where
+    all_written : Told (HoldTexts (generated_files folder units seed)) before now → EndsIn (wrote_report (units + 1)) ended → GeneratesSo folder units seed ended
+    write_stopped : Told (StopsWithin (generated_files folder units seed)) before now → failed → ended ≡ WriteFailed → GeneratesSo folder units seed ended
+    none_written : Told (λ (old new : Lookup). new ≡ old) before now → ended ≡ OutOfMemory → GeneratesSo folder units seed ended

@@ -1,0 +1,103 @@
+//! The words behind `gen` and behind `list`.
+
+ghost use Rattle.std.specs.Prelude.{◌≡◌, ◌<◌, ◌≤◌, ◌^◌, ◌∷◌, [], ℕ, List, None, decimal, map, string_bytes, IfSome};
+ghost use Rattle.std.specs.List.{list_all};
+ghost use Rattle.header_units.specs.Octets.{is_path_octet};
+ghost use Rattle.modmap.specs.Askings.{AsksGen, AsksList, IsNumberWithin, is_folder};
+
+use mapper_requests::read_decimal;
+
+/// The most octets of a folder.
+const LONGEST_FOLDER: usize = 400;
+
+/// The most units that can be generated.
+const MOST_UNITS: u32 = 2_000;
+
+/// The greatest seed.
+const GREATEST_SEED: u32 = 2_147_483_647;
+
+/// What `gen` is asked for.
+#[derive(Clone, Copy, Debug, PartialEq, Eq)]
+pub struct Asking<'a> {
+    /// The folder of the project.
+    pub folder: &'a [u8],
+    /// How many units it is to have.
+    pub units: u32,
+    /// The number that its draws begin with.
+    pub seed: u32,
+}
+
+/// Whether no octet is below 0x20 or 0x7f.
+fn has_no_control(word: &[u8]) -> bool
+    ensures { result ≡ list_all is_path_octet word.now }
+{
+    word.iter().all(|octet| !octet.is_ascii_control())
+}
+
+/// Whether the word may be a folder: 1 to 400 octets, none below 0x20 and none 0x7f.
+fn is_folder(word: &[u8]) -> bool
+    ensures { result ≡ is_folder word.now }
+{
+    !word.is_empty() && word.len() <= LONGEST_FOLDER && has_no_control(word)
+}
+
+/// The number that the word spells, where it lies between the two or is one of them.
+fn read_within(low: u32, high: u32, word: &[u8]) -> Option<u32>
+    ensures number { IfSome result (λ number. IsNumberWithin low high word.now number) }
+    ensures none { result ≡ None → (number : ℕ) → IsNumberWithin low high word.now number → ⊥ }
+{
+    let Some(number) = read_decimal(word) else {
+        return None;
+    };
+    if low <= number && number <= high {
+        Some(number)
+    } else {
+        None
+    }
+}
+
+/// What `gen` is asked for by these three words.
+fn read_counts<'a>(folder: &'a [u8], units: &[u8], seed: &[u8]) -> Option<Asking<'a>>
+    ensures asked { IfSome result (λ asked. AsksGen (folder.now ∷ units.now ∷ seed.now ∷ []) asked.folder.now asked.units asked.seed) }
+    ensures none { result ≡ None → (place : List ℕ) (count first : ℕ) → AsksGen (folder.now ∷ units.now ∷ seed.now ∷ []) place count first → ⊥ }
+{
+    if !is_folder(folder) {
+        return None;
+    }
+    let Some(units) = read_within(1, MOST_UNITS, units) else {
+        return None;
+    };
+    let Some(seed) = read_within(0, GREATEST_SEED, seed) else {
+        return None;
+    };
+    Some(Asking {
+        folder,
+        units,
+        seed,
+    })
+}
+
+/// What `gen` is asked for by the words behind it; `None` where they aren't `FOLDER UNITS SEED` with a FOLDER of 1 to 400
+/// octets, none below 0x20 and none 0x7f, UNITS from 1 to 2,000 and SEED from 0 to 2,147,483,647, decimal without leading
+/// zeros. The form is this project's own.
+pub fn read_gen(words: &[String]) -> Option<Asking<'_>>
+    ensures asked { IfSome result (λ asked. AsksGen (map string_bytes words.now) asked.folder.now asked.units asked.seed) }
+    ensures none { result ≡ None → (folder : List ℕ) (units seed : ℕ) → AsksGen (map string_bytes words.now) folder units seed → ⊥ }
+{
+    match words {
+        [folder, units, seed] => read_counts(folder.as_bytes(), units.as_bytes(), seed.as_bytes()),
+        _ => None,
+    }
+}
+
+/// The project file that `list` is asked for by the words behind it; `None` where they aren't one word. The form is this
+/// project's own.
+pub fn read_list(words: &[String]) -> Option<&[u8]>
+    ensures asked { IfSome result (λ project. AsksList (map string_bytes words.now) project.now) }
+    ensures none { result ≡ None → (project : List ℕ) → AsksList (map string_bytes words.now) project → ⊥ }
+{
+    match words {
+        [project] => Some(project.as_bytes()),
+        _ => None,
+    }
+}

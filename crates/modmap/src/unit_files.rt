@@ -1,0 +1,309 @@
+//! Reading the files of the units of a project.
+
+ghost use Rattle.std.specs.Prelude.{◌≡◌, ◌≢◌, ◌⊎◌, ◌<◌, ◌≤◌, ◌+◌, ℕ, suc, length, true, false, None, IfOk, OnOk, IfErr};
+ghost use Rattle.mm_outside.specs.Causes.{Rose};
+ghost use Rattle.mm_outside.specs.Told.{Told};
+ghost use Rattle.header_units.specs.Names.{name_kind};
+ghost use Rattle.unit_registry.specs.Projects.{is_built, name_of, unit_count};
+ghost use Rattle.modmap.specs.Endings.{OutOfMemory, told_by};
+ghost use Rattle.modmap.specs.ListRuns.{AddsSo, BuiltHaveNames, CmiSo, FileSo, Fit, GathersSo, SourceSo, Stay, TextSo, cmi_file, ended_at, ended_by};
+ghost use Rattle.modmap.specs.declared.unit_files.Stop.TheVariants as stop;
+
+use crate::ending::Ending;
+use cody_words::LineBuf;
+use export_lists::{Cmi, CmiError};
+use header_units::Name;
+use mm_outside::{Bytes, Files, List, Memory, ReadAllError, Text};
+use std::alloc::Global;
+use unit_registry::Project;
+
+/// The most octets of a source.
+const MOST_SOURCE_OCTETS: u64 = 1_048_576;
+
+/// The most octets of the file of an interface.
+const MOST_CMI_OCTETS: u64 = 268_435_456;
+
+/// Room for the CMI name of any unit.
+const CMI_NAME_ROOM: u32 = 2_100;
+
+/// Why a file isn't taken.
+#[derive(Clone, Copy, Debug, PartialEq, Eq)]
+pub enum Fault {
+    /// It is absent, or reading it failed.
+    Unreadable,
+    /// It holds more octets than its kind may have.
+    TooLong,
+    /// A line isn't one of an interface's text.
+    NotCmi {
+        /// The first line at fault, counted from 1.
+        line: u32,
+    },
+    /// It holds the interface of another unit.
+    OtherUnit,
+}
+
+impl Fault {
+    /// The ending of a run that stops at the file of this name.
+    pub fn ending(self, name: &[u8]) -> Ending<'_>
+        ensures { told_by result ≡ ended_at name.now self }
+    {
+        match self {
+            Fault::Unreadable => Ending::CannotRead { name },
+            Fault::TooLong => Ending::FileTooLong { name },
+            Fault::NotCmi { line } => Ending::Refused {
+                name,
+                line,
+                reason: b"not a cmi",
+            },
+            Fault::OtherUnit => Ending::Refused {
+                name,
+                line: 2,
+                reason: b"unit differs from project",
+            },
+        }
+    }
+}
+
+/// Why reading the files of units stops.
+#[derive(Debug, Drop)]
+pub enum Stop {
+    /// Memory was wanted.
+    Memory,
+    /// A file isn't taken.
+    File {
+        /// The name of the file.
+        name: Text,
+        /// Why it isn't taken.
+        fault: Fault,
+    },
+}
+
+impl From<Memory> for Stop {
+    ghost from_gives = { λ _ given. given ≡ stop.Memory };
+
+    fn from(_memory: Memory) -> Stop {
+        Stop::Memory
+    }
+}
+
+/// What the files of a project's units hold.
+#[derive(Debug, Drop)]
+pub struct Gathered {
+    /// The sources, one for each unit; of a unit that was built before an empty one.
+    pub sources: List<Text>,
+    /// The interfaces of the units that were built before.
+    pub built: List<Cmi>,
+}
+
+/// The stop at a file.
+fn stop_at(alloc: Global, name: &[u8], fault: Fault) -> Stop
+    ensures { (ended_by result ≡ OutOfMemory) ⊎ (ended_by result ≡ ended_at name.now fault) }
+{
+    match Text::of(alloc, name) {
+        Ok(name) => Stop::File { name, fault },
+        Err(Memory) => Stop::Memory,
+    }
+}
+
+/// What a file holds, if that is at most `most` octets.
+fn read_file<F: Files>(alloc: Global, name: &[u8], most: u64, files: &mut F) -> Result<Bytes, Stop>
+    ensures file { Told (Stay (FileSo (Rose (F.read_faults files.old) (F.read_faults files.new)) name.now most result)) (F.content files.old) (F.content files.new) }
+    ensures bound { IfOk result (λ text. length text ≤ most) }
+    ensures kept { OnOk result (F.read_faults files.new ≡ F.read_faults files.old) }
+    ensures later { F.read_faults files.old ≤ F.read_faults files.new }
+    ensures write_faults { F.write_faults files.new ≡ F.write_faults files.old }
+{
+    match files.read_all(alloc, name, most) {
+        Ok(text) => Ok(text),
+        Err(ReadAllError::Failed | ReadAllError::Absent) => {
+            Err(stop_at(alloc, name, Fault::Unreadable))
+        }
+        Err(ReadAllError::TooLong) => Err(stop_at(alloc, name, Fault::TooLong)),
+        Err(ReadAllError::Memory) => Err(Stop::Memory),
+    }
+}
+
+/// The source of a unit.
+fn read_source<F: Files>(
+    alloc: Global,
+    project: &Project,
+    unit: u32,
+    files: &mut F,
+) -> Result<Text, Stop>
+    requires unit { unit < unit_count project.now }
+    requires source { is_built project.now unit ≡ false }
+    ensures file { Told (Stay (SourceSo (Rose (F.read_faults files.old) (F.read_faults files.new)) project.now unit result)) (F.content files.old) (F.content files.new) }
+    ensures kept { OnOk result (F.read_faults files.new ≡ F.read_faults files.old) }
+    ensures later { F.read_faults files.old ≤ F.read_faults files.new }
+    ensures write_faults { F.write_faults files.new ≡ F.write_faults files.old }
+{
+    read_file(alloc, project.ident(unit), MOST_SOURCE_OCTETS, files)
+}
+
+/// The name of the file of a unit's interface.
+fn cmi_file(alloc: Global, project: &Project, unit: u32) -> Result<Text, Memory>
+    requires unit { unit < unit_count project.now }
+    requires named { name_kind (name_of project.now unit) ≢ None }
+    ensures { IfOk result (λ file. file ≡ cmi_file project.now unit) }
+{
+    let mut cmi_name = LineBuf::new(alloc, CMI_NAME_ROOM)?;
+    let name = Name::read(project.name(unit)).unwrap();
+    name.cmi_name_into(&mut cmi_name);
+    let mut file = Text::of(alloc, project.workspace_repo())?;
+    file.extend(b"/")?;
+    file.extend(cmi_name.octets())?;
+    Ok(file)
+}
+
+/// The interface, where it is that of the declared unit.
+fn check_unit(name: Text, declared: &[u8], cmi: Cmi) -> Result<Cmi, Stop>
+    ensures taken { IfOk result (λ checked. (checked ≡ cmi) × (cmi.unit ≡ declared.now)) }
+    ensures refused { IfErr result (λ stop. (ended_by stop ≡ ended_at name Fault.OtherUnit) × (cmi.unit ≢ declared.now)) }
+{
+    if cmi.unit.octets() == declared {
+        Ok(cmi)
+    } else {
+        Err(Stop::File {
+            name,
+            fault: Fault::OtherUnit,
+        })
+    }
+}
+
+/// The interface of the declared unit, whose text this is.
+fn parse_cmi(alloc: Global, name: Text, declared: &[u8], octets: &[u8]) -> Result<Cmi, Stop>
+    requires { length octets.now ≤ 2147483648 }
+    ensures { TextSo name declared.now octets.now result }
+{
+    match Cmi::read(alloc, octets) {
+        Ok(cmi) => check_unit(name, declared, cmi),
+        Err(CmiError::Text { line }) => Err(Stop::File {
+            name,
+            fault: Fault::NotCmi { line },
+        }),
+        Err(CmiError::Memory) => Err(Stop::Memory),
+    }
+}
+
+/// The interface of a unit that was built before.
+fn read_cmi<F: Files>(
+    alloc: Global,
+    project: &Project,
+    unit: u32,
+    files: &mut F,
+) -> Result<Cmi, Stop>
+    requires unit { unit < unit_count project.now }
+    requires built { is_built project.now unit ≡ true }
+    requires named { name_kind (name_of project.now unit) ≢ None }
+    ensures file { Told (Stay (CmiSo (Rose (F.read_faults files.old) (F.read_faults files.new)) project.now unit result)) (F.content files.old) (F.content files.new) }
+    ensures kept { OnOk result (F.read_faults files.new ≡ F.read_faults files.old) }
+    ensures later { F.read_faults files.old ≤ F.read_faults files.new }
+    ensures write_faults { F.write_faults files.new ≡ F.write_faults files.old }
+{
+    let name = cmi_file(alloc, project, unit)?;
+    let text = match read_file(alloc, name.octets(), MOST_CMI_OCTETS, files) {
+        Ok(text) => text,
+        Err(stop) => return Err(stop),
+    };
+    parse_cmi(alloc, name, project.name(unit), text.octets())
+}
+
+/// Adds the interface of a unit that was built before, and an empty source.
+fn add_built<F: Files>(
+    alloc: Global,
+    project: &Project,
+    unit: u32,
+    files: &mut F,
+    gathered: &mut Gathered,
+) -> Result<(), Stop>
+    requires unit { unit < unit_count project.now }
+    requires few { unit < 65536 }
+    requires built { is_built project.now unit ≡ true }
+    requires named { name_kind (name_of project.now unit) ≢ None }
+    requires fit { Fit project.now unit gathered.old.sources gathered.old.built }
+    ensures file { Told (Stay (AddsSo (Rose (F.read_faults files.old) (F.read_faults files.new)) project.now unit result gathered.old gathered.new)) (F.content files.old) (F.content files.new) }
+    ensures fit { OnOk result (Fit project.now (suc unit) gathered.new.sources gathered.new.built) }
+    ensures kept { OnOk result (F.read_faults files.new ≡ F.read_faults files.old) }
+    ensures later { F.read_faults files.old ≤ F.read_faults files.new }
+    ensures write_faults { F.write_faults files.new ≡ F.write_faults files.old }
+{
+    let cmi = match read_cmi(alloc, project, unit, files) {
+        Ok(cmi) => cmi,
+        Err(stop) => return Err(stop),
+    };
+    gathered.sources.push(Text::new(alloc))?;
+    gathered.built.push(cmi)?;
+    Ok(())
+}
+
+/// Adds the source of a unit.
+fn add_source<F: Files>(
+    alloc: Global,
+    project: &Project,
+    unit: u32,
+    files: &mut F,
+    gathered: &mut Gathered,
+) -> Result<(), Stop>
+    requires unit { unit < unit_count project.now }
+    requires few { unit < 65536 }
+    requires source { is_built project.now unit ≡ false }
+    requires fit { Fit project.now unit gathered.old.sources gathered.old.built }
+    ensures file { Told (Stay (AddsSo (Rose (F.read_faults files.old) (F.read_faults files.new)) project.now unit result gathered.old gathered.new)) (F.content files.old) (F.content files.new) }
+    ensures fit { OnOk result (Fit project.now (suc unit) gathered.new.sources gathered.new.built) }
+    ensures kept { OnOk result (F.read_faults files.new ≡ F.read_faults files.old) }
+    ensures later { F.read_faults files.old ≤ F.read_faults files.new }
+    ensures write_faults { F.write_faults files.new ≡ F.write_faults files.old }
+{
+    let text = match read_source(alloc, project, unit, files) {
+        Ok(text) => text,
+        Err(stop) => return Err(stop),
+    };
+    gathered.sources.push(text)?;
+    Ok(())
+}
+
+/// Adds what the file of a unit holds.
+fn add_unit<F: Files>(
+    alloc: Global,
+    project: &Project,
+    unit: u32,
+    files: &mut F,
+    gathered: &mut Gathered,
+) -> Result<(), Stop>
+    requires unit { unit < unit_count project.now }
+    requires few { unit < 65536 }
+    requires named { BuiltHaveNames project.now }
+    requires fit { Fit project.now unit gathered.old.sources gathered.old.built }
+    ensures file { Told (Stay (AddsSo (Rose (F.read_faults files.old) (F.read_faults files.new)) project.now unit result gathered.old gathered.new)) (F.content files.old) (F.content files.new) }
+    ensures fit { OnOk result (Fit project.now (suc unit) gathered.new.sources gathered.new.built) }
+    ensures kept { OnOk result (F.read_faults files.new ≡ F.read_faults files.old) }
+    ensures later { F.read_faults files.old ≤ F.read_faults files.new }
+    ensures write_faults { F.write_faults files.new ≡ F.write_faults files.old }
+{
+    if project.is_built(unit) {
+        add_built(alloc, project, unit, files, gathered)
+    } else {
+        add_source(alloc, project, unit, files, gathered)
+    }
+}
+
+/// Reads the files of all units, in the order of the project, up to the first that isn't taken.
+pub fn gather<F: Files>(alloc: Global, project: &Project, files: &mut F) -> Result<Gathered, Stop>
+    requires named { BuiltHaveNames project.now }
+    ensures files { Told (Stay (GathersSo (Rose (F.read_faults files.old) (F.read_faults files.new)) project.now result)) (F.content files.old) (F.content files.new) }
+    ensures fit { IfOk result (λ gathered. Fit project.now (unit_count project.now) gathered.sources gathered.built) }
+    ensures later { F.read_faults files.old ≤ F.read_faults files.new }
+    ensures write_faults { F.write_faults files.new ≡ F.write_faults files.old }
+{
+    let mut gathered = Gathered {
+        sources: List::new(alloc),
+        built: List::new(alloc),
+    };
+    for unit in 0..project.unit_count() {
+        match add_unit(alloc, project, unit, files, &mut gathered) {
+            Ok(()) => {}
+            Err(stop) => return Err(stop),
+        }
+    }
+    Ok(gathered)
+}
