@@ -37,6 +37,16 @@ block-more project f lines places more le = ap (option_map (reply_lines project)
     by true e = ap (λ b. cond b (Some (refusals lines)) (dealt f lines (places ++ more))) e ∙ sym (ap (λ b. cond b (Some (refusals lines)) (dealt f lines places)) e)
     by false e = ap (λ (r : Option (List LineReply)). cond (is_refused lines) (Some (refusals lines)) r) (dealt-more f lines places more (omega (arith, le, ap (λ b. cond b 0 (length lines)) e)))
 
+-- places behind those of the blocks' requests change nothing
+pub answers-more : (project : ProjectView) (f : ℕ → Option Answer) (blocks : List Block) (places more : List ℕ) → length places ≡ all_requests project blocks → answers_at project f blocks (places ++ more) ≡ answers_at project f blocks places
+answers-more project f [] places more e = refl
+answers-more project f (first ∷ blocks) places more e =
+    let count = request_count (asked_of project first) in
+    let le : count ≤ length places = omega (arith, e) in
+    ap (λ (t : Option (List ℕ)). joined t (answers_at project f blocks (drop count (places ++ more)))) (block-more project f (asked_of project first) places more le)
+    ∙ ap (λ (ps : List ℕ). joined (block_answer project f (asked_of project first) places) (answers_at project f blocks ps)) (drop-more count places more le)
+    ∙ ap (joined (block_answer project f (asked_of project first) places)) (answers-more project f blocks (drop count places) more (length-drop count places ∙ omega (arith, e)))
+
 -- the answers to blocks and one block more, whose requests have these places
 pub answers-push : (project : ProjectView) (f : ℕ → Option Answer) (blocks : List Block) (block : Block) (places more : List ℕ) → length places ≡ all_requests project blocks
     → answers_at project f (blocks ++ block ∷ []) (places ++ more) ≡ joined (answers_at project f blocks places) (block_answer project f (asked_of project block) more)

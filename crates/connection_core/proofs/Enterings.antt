@@ -25,7 +25,7 @@ use Rattle.connection_core.specs.Working.{EntersSoFar}
 
 -- ---- the acts and the requests of a connection in more of a history
 
-acts-append : (conn : ℕ) (first second : List Entry) → acts_of conn (first ++ second) ≡ acts_of conn first ++ acts_of conn second
+pub acts-append : (conn : ℕ) (first second : List Entry) → acts_of conn (first ++ second) ≡ acts_of conn first ++ acts_of conn second
 acts-append conn [] second = refl
 acts-append conn (e ∷ first) second = by (e.conn == conn) (acts-append conn first second)
   where
@@ -39,7 +39,7 @@ acts-apart conn [] apart = refl
 acts-apart conn (e ∷ since) apart =
     ap (λ b. cond b (e.act ∷ acts_of conn since) (acts_of conn since)) (ne_eqb e.conn conn (apart e (inl refl))) ∙ acts-apart conn since (λ x there. apart x (inr there))
 
-places-append : (conn at : ℕ) (first second : List Entry) → request_places at conn (first ++ second) ≡ request_places at conn first ++ request_places (at + length first) conn second
+pub places-append : (conn at : ℕ) (first second : List Entry) → request_places at conn (first ++ second) ≡ request_places at conn first ++ request_places (at + length first) conn second
 places-append conn at [] second = ap (λ n. request_places n conn second) (omega arith)
 places-append conn at (e ∷ first) second = by (e.conn == conn && is_request e.act) (places-append conn (at + 1) first second ∙ ap (λ n. request_places (at + 1) conn first ++ request_places n conn second) (omega arith))
   where

@@ -167,7 +167,7 @@ impl<I> Session<I> {
         }
     }
 
-    /// Writes the replies of the block that waits for them, in as few writes as the link allows, or answers the place of
+    /// Writes the replies of the block that waits for them, by way of a buffer of lines, or answers the place of
     /// a request that has no reply yet; then nothing is written. Where no block waits nothing is written.
     ///
     /// # Ends

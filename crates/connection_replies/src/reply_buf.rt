@@ -86,7 +86,7 @@ impl ReplyBuf {
         write_reply(project, reply, more, &mut self.text, &mut self.lines);
     }
 
-    /// Writes the lines in which a block is answered to a link, in as few writes as the link and the buffer allow. After
+    /// Writes the lines in which a block is answered to a link, by way of the buffer. After
     /// `Failed` a proper prefix of them was written. What stood in the buffer before is forgotten.
     pub fn send<L: Link>(
         &mut self,

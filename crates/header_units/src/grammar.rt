@@ -36,8 +36,9 @@ fn is_path_octet(octet: u8) -> bool
     !octet.is_ascii_control()
 }
 
-/// Whether the octets are an identifier.
-fn is_identifier(word: &[u8]) -> bool
+/// Whether the octets are an identifier: a letter or `_`, and then letters, digits and `_`, at most 255 octets.
+/// The limit is this project's own.
+pub fn is_identifier(word: &[u8]) -> bool
     ensures { result ≡ is_identifier word.now }
 {
     match word {

@@ -13,6 +13,7 @@ mod laws;
 mod name;
 
 pub use cmi_name::CMI_NAME_ROOM;
+pub use grammar::is_identifier;
 pub use laws::{cmi_name_fits, distinct_cmi_names, distinct_components, kind_by_grammar, one_kind};
 pub use name::{BadName, Name, NameKind};
 

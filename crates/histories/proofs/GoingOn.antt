@@ -46,7 +46,7 @@ candidates project noted entry = wait_of (answered_entry project noted entry).sa
 abbrev pub still : ProjectView → List Noted → Wait → Bool
 still project noted w = is_open (answered_of noted) w.conn && is_none (fate project noted w.unit)
 
-and_alike : (a b c : Bool) → (a ≡ true → b ≡ c) → (a && b) ≡ (a && c)
+pub and_alike : (a b c : Bool) → (a ≡ true → b ≡ c) → (a && b) ≡ (a && c)
 and_alike true b c h = h refl
 and_alike false b c h = refl
 

@@ -7,18 +7,15 @@ use Rattle.module_units.specs.Unit.{UnitOf}
 use Rattle.module_units.specs.Machine.{Stage, Place, Parser, step, run, start, ParserHasRoom}
 use Rattle.module_units.specs.Rules.{Fault, faults_of}
 use Rattle.module_units.specs.FaultRuns.{behind_at, fault_step, fault_run, first_fault, or_first}
-use Rattle.module_units.specs.Reading.{seen, seen_all, token_line, ReadsUnit, Bad, Reads, RefusesSource, of_lexical}
-use Rattle.module_units.specs.Readers.{IsReader, TakesOnLine, finished, held, HasRead}
+use Rattle.module_units.specs.Reading.{seen, seen_all, token_line, ReadsUnit, Bad, Reads, RefusesSource}
+use Rattle.module_units.specs.Readers.{TakesOnLine, finished, held, HasRead}
 use Rattle.module_units.specs.declared.reader.Reader.{Reader}
 use Rattle.module_units.specs.declared.places.Place.TheVariants as places
 use Rattle.module_units.specs.declared.unit.SourceError.{SourceError}
 use Rattle.module_units.specs.declared.unit.SourceError.TheVariants as errors
 use Rattle.module_lexer.specs.declared.token.Token.{Token}
 use Rattle.module_lexer.specs.declared.reason.SourceReason.TheVariants.{Syntax}
-use Rattle.module_lexer.specs.declared.lexed.LexFault.{LexFault}
-use Rattle.module_lexer.specs.declared.lexed.LexFault.TheVariants as lexical
 use Rattle.module_lexer.specs.Tokens.{HasTokens, InOrder, line_of}
-use Rattle.module_lexer.specs.Faults.{Refuses}
 use Rattle.module_lexer.proofs.Spans.{spans_in_order}
 use Rattle.module_units.proofs.Readings.{IsUnit, accepted, stops_at, ends_early}
 use Rattle.module_units.proofs.UnitFaults.{unit_faults}
@@ -82,15 +79,6 @@ or_first-append : (before : Option Fault) (a b : List Fault) → or_first before
 or_first-append None [] b = refl
 or_first-append None (f ∷ a) b = refl
 or_first-append (Some f) a b = refl
-
--- nothing is read yet
-pub read_nothing : (text : List ℕ) (tokens : List Token) (r : Reader) → IsReader r → r.parser ≡ start → r.behind ≡ behind_at 0 false → r.fault ≡ None → HasRead text tokens 0 r
-read_nothing text tokens r is parser_is behind_is fault_is = record {
-  reads = ap Some (sym parser_is);
-  faults = λ i. or_first (fault_is i) (fault_run (behind_is i) (Some (parser_is i)) (seen_all text tokens));
-  reader = is;
-  small = subst (λ p. held p ≤ 0) (sym parser_is) (omega arith);
-}
 
 -- and one token more
 pub read_more : (text : List ℕ) (tokens : List Token) (k n : ℕ) (r q : Reader) (token : Token) → n ≡ suc k → slice_get tokens k ≡ Some token → HasRead text tokens k r
@@ -225,8 +213,3 @@ pub read_unit : (text : List ℕ) (tokens : List Token) (r : Reader) (line : ℕ
 read_unit text tokens r line result cut read line_is is =
     let h : MatchSource text result = subst (MatchSource text) (sym is) (by_place text tokens r line r.parser.place refl cut read line_is) in
     (source_ok text result h, source_err text result h)
-
--- a lexical fault
-pub lexical_refused : (text : List ℕ) (fault : LexFault) → Refuses text fault → RefusesSource text (of_lexical fault)
-lexical_refused text (lexical.Text line reason) h = inl h
-lexical_refused text lexical.Memory h = tt

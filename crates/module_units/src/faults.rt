@@ -25,11 +25,11 @@ const MOST_IMPORTS: u32 = 1000;
 
 /// The line of a token at fault, and why it is refused.
 #[derive(Clone, Copy, Debug)]
-pub(crate) struct Fault {
+pub struct Fault {
     /// The line, counted from 1.
-    pub(crate) line: u32,
+    pub line: u32,
     /// The reason.
-    pub(crate) reason: SourceReason,
+    pub reason: SourceReason,
 }
 
 /// The terminal behind the last `module` or `import`.
@@ -83,8 +83,8 @@ pub(crate) fn behind_of(before: Behind, place: &Place, terminal: &Terminal) -> B
     }
 }
 
-/// Whether units of the kind may export.
-fn can_export(kind: UnitKind) -> bool
+/// Whether units of the kind may export: the interface of a module or of a partition.
+pub fn can_export(kind: UnitKind) -> bool
     ensures { result ≡ can_export kind }
 {
     matches!(kind, UnitKind::Interface | UnitKind::PartitionInterface)

@@ -19,6 +19,7 @@ mod terminal;
 mod tests;
 mod unit;
 
+pub use faults::{Fault, can_export};
 pub use laws::{each_token_is_spelled, one_reading, one_syntax_fault, one_unit};
 pub use parts::{Decl, DeclKind, Import, TypeUse, UnitKind};
 pub use unit::{SourceError, Unit};

@@ -120,7 +120,7 @@ newest_conns (Reply answer) act place conn holder ws count limit a h below w the
 newest_conns Nothing act place conn holder ws count limit a h below w there = a w there
 
 -- what is told with the entry, or was before
-cases_of : (said : Said) (place conn : ℕ) (ws : List Wait) (w : Wait) → In w (wait_of said place conn ws) → ((said ≡ Waits w.unit) × (conn ≡ w.conn)) ⊎ In w ws
+pub cases_of : (said : Said) (place conn : ℕ) (ws : List Wait) (w : Wait) → In w (wait_of said place conn ws) → ((said ≡ Waits w.unit) × (conn ≡ w.conn)) ⊎ In w ws
 cases_of (Waits unit) place conn ws w (inl same) = inl (ap (λ (x : Wait). Waits x.unit) same, ap (λ (x : Wait). x.conn) same)
 cases_of (Waits unit) place conn ws w (inr there) = inr there
 cases_of (Reply answer) place conn ws w there = inr there

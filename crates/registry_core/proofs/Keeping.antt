@@ -19,7 +19,9 @@ use Rattle.histories.proofs.Legality.{noted_push}
 use Rattle.histories.proofs.ReplyLaws.{reply_own}
 use Rattle.histories.proofs.Reports.{reported_first, stored_reported}
 use Rattle.registry_core.specs.declared.full.Full.{Full}
-use Rattle.registry_core.specs.Ledgers.{LedgerView, Appends, said_in, said_to, with_entry, entry, reply_at}
+use Rattle.registry_core.specs.declared.leaving.Leaving.{Leaving}
+use Rattle.registry_core.specs.declared.leaving.Leaving.TheVariants.{Left as AsLeft, Lost as AsLost}
+use Rattle.registry_core.specs.Ledgers.{LedgerView, Appends, said_in, said_to, with_entry, entry, leaving, reply_at}
 use Rattle.registry_core.specs.Shelves.{ComesWith, kept_after, is_done_answer}
 use Rattle.registry_core.specs.Books.{KeepsItems}
 use Rattle.registry_core.proofs.Ready.{range_by}
@@ -85,6 +87,11 @@ none_of (Some item) h = absurd (true≢false h)
 -- the answer that comes with a request's own entry
 pub own_answer : (ledger : LedgerView) (conn : ℕ) (act : Act) → reply_at (with_entry ledger (entry conn act)) (length ledger.entries) ≡ answer_in (said_to ledger conn act)
 own_answer ledger conn act = reply_own ledger.project ledger.workers ledger.entries (entry conn act)
+
+-- going stores nothing
+pub leaving_stores : (how : Leaving) → stored_unit (leaving how) ≡ None
+leaving_stores AsLeft = refl
+leaving_stores AsLost = refl
 
 -- ---- what is kept after
 

@@ -155,7 +155,7 @@ impl Ledger {
         ensures { Appends self.old (entry conn (leaving how)) self.new }
     {
         self.is_legal();
-        self.enter(conn, leaving(how));
+        self.enter(conn, going_act(how));
     }
 
     /// A worker is done.
@@ -363,7 +363,8 @@ fn refused(refusal: Refusal) -> Said
     Said::Reply(Answer::Refused(refusal))
 }
 
-fn leaving(how: Leaving) -> Act
+/// The act by which a connection goes.
+pub fn going_act(how: Leaving) -> Act
     ensures { result ≡ leaving how }
 {
     match how {

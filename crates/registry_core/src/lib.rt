@@ -16,7 +16,7 @@ pub use desk::Desk;
 pub use full::Full;
 pub use histories::{Answer, Entry};
 pub use leaving::Leaving;
-pub use ledger::Ledger;
+pub use ledger::{Ledger, going_act};
 pub use no_shelf::NoShelf;
 pub use shelf::Shelf;
 pub use solo::SoloDesk;

@@ -81,12 +81,6 @@ goes_away opened_list answered e not_opens leaves was =
     ∙ sym (ap (λ xs. filter (λ c. not (has_gone (e ∷ answered) c)) xs) (unopened e answered not_opens)
     ∙ filter_alike (λ c. not (has_gone (e ∷ answered) c)) (λ c. not (has_gone answered c) && not (c == e.conn)) (gone_with e answered leaves) (opened answered))
 
-pub neither : (opened_list : List ℕ) (answered : List Answered) (e : Answered) → is_open_act e.act ≡ false → goes e.act ≡ false → reverse opened_list ≡ open_connections answered → reverse opened_list ≡ open_connections (e ∷ answered)
-neither opened_list answered e not_opens stays was =
-    was
-    ∙ sym (ap (λ xs. filter (λ c. not (has_gone (e ∷ answered) c)) xs) (unopened e answered not_opens)
-    ∙ filter_alike (λ c. not (has_gone (e ∷ answered) c)) (λ c. not (has_gone answered c)) (gone_alike e answered stays) (opened answered))
-
 pub opened_more : (answered : List Answered) (e : Answered) → opened_count (e ∷ answered) ≡ opened_count answered + cond (is_open_act e.act) 1 0
 opened_more answered e = by (is_open_act e.act)
   where

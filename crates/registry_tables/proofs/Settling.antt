@@ -32,9 +32,6 @@ ahead_start t waiting replies reply s = record {
   ];
 }
 
-pub ahead_end : (t : Tabled) (replies : List (Option Answer)) (reply : ℕ → Option Answer) → Ahead t [] replies reply → (k : ℕ) → k < length replies → get_or replies k None ≡ reply k
-ahead_end t replies reply a k below = elim (a.right k below) [ inl is ↦ is | inr w ↦ absurd (w.1) ]
-
 pub ahead_passes : (t : Tabled) (w : Waiting) (ahead : List Waiting) (replies : List (Option Answer)) (reply : ℕ → Option Answer) → fate_in t w.unit ≡ None → Ahead t (w ∷ ahead) replies reply → Ahead t ahead replies reply
 ahead_passes t w ahead replies reply none a = record {
   right = λ k below. elim (a.right k below) [

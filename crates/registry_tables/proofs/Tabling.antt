@@ -109,6 +109,3 @@ units_named units answered e unit d row names_it below is rows = record { row = 
 
 pub units_unnamed : (units : List UnitRow) (answered : List Answered) (e : Answered) → unit_of e.act ≡ None → UnitRows units answered → UnitRows units (e ∷ answered)
 units_unnamed units answered e names_none rows = record { row = units_unnamed_rows units answered e names_none rows.row }
-
-pub conns_past : (conns : List ConnRow) (answered : List Answered) (e : Answered) → length conns ≤ e.conn → ConnRows conns answered → ConnRows conns (e ∷ answered)
-conns_past conns answered e past rows = record { row = λ k d within. conn_row-other (get_or conns k d) answered e k (λ s. (let l : k < length conns = within in omega arith)) (rows.row k d within) }

@@ -36,15 +36,6 @@ repo_is (a ∷ []) f e = let no : ⊥ = cc in absurd no
 repo_is (a ∷ b ∷ []) f e = search rules
 repo_is (a ∷ b ∷ c ∷ rest) f e = search rules
 
-head_form-words : head_form head_words ≡ Some Heading
-head_form-words = refl
-
-repo_form-words : (path : List ℕ) → repo_form (repo_words path) ≡ Some (Repository path)
-repo_form-words path = refl
-
-unit_form-end : unit_form end_words ≡ Some Ending
-unit_form-end = refl
-
 -- a line with a name: its unit
 abbrev NamedForm : Bool → List ℕ → List ℕ → List ℕ → Form → Type 0
 NamedForm built verb name ident f =

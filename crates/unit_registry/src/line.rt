@@ -4,12 +4,12 @@ ghost use Rattle.std.specs.Prelude.{◌≡◌, ◌≤◌, IfOk};
 ghost use Rattle.std.specs.List.{list_all};
 ghost use Rattle.std.specs.Option.{option_map};
 ghost use Rattle.header_units.specs.Octets.{is_path_octet};
-ghost use Rattle.mapper_requests.specs.Requests.{word_at};
 ghost use Rattle.unit_registry.specs.Lines.{declared_by, form, form_of, head_form, is_text, is_word, named_form, repo_form, unit_form};
 
 use crate::kind::Kind;
 use crate::unit::Declared;
 use cody_words::Words;
+use mapper_requests::word_or_empty;
 use mm_outside::{Memory, Text};
 use std::alloc::Global;
 
@@ -55,22 +55,11 @@ pub(crate) enum Form<'a> {
     Ending,
 }
 
-/// The word at the place, or nothing where there is none.
-fn word_at(words: &Words, place: u32) -> &[u8]
-    ensures { result.now ≡ word_at words.now place }
-{
-    if place < words.len() {
-        words.word(place)
-    } else {
-        b""
-    }
-}
-
 /// Whether the word at the place is this one.
 fn is_word(words: &Words, place: u32, word: &[u8]) -> bool
     ensures { result ≡ is_word words.now place word.now }
 {
-    word_at(words, place) == word
+    word_or_empty(words, place) == word
 }
 
 /// The form of `module NAME IDENT` or `header NAME IDENT`, from the place on.
@@ -88,8 +77,8 @@ fn named_form(built: bool, words: &Words, place: u32) -> Option<Form<'_>>
     Some(Form::Entry {
         line: UnitLine {
             kind,
-            name: word_at(words, place + 1),
-            ident: word_at(words, place + 2),
+            name: word_or_empty(words, place + 1),
+            ident: word_or_empty(words, place + 2),
             built,
         },
     })
@@ -105,7 +94,7 @@ fn unit_form(words: &Words) -> Option<Form<'_>>
             line: UnitLine {
                 kind: Kind::Plain,
                 name: b"",
-                ident: word_at(words, 1),
+                ident: word_or_empty(words, 1),
                 built: false,
             },
         }),
@@ -131,7 +120,7 @@ fn repo_form(words: &Words) -> Option<Form<'_>>
     ensures { option_map form_of result ≡ repo_form words.now }
 {
     if words.len() == 2 && is_word(words, 0, b"repo") {
-        let path = word_at(words, 1);
+        let path = word_or_empty(words, 1);
         Some(Form::Repository { path })
     } else {
         None

@@ -13,7 +13,7 @@ use memchr::memchr;
 use std::alloc::Global;
 
 /// What stands before the first NEWLINE, and what stands behind it, if there is one.
-fn cut_at_newline(octets: &[u8]) -> Option<(&[u8], &[u8])>
+pub fn cut_at_newline(octets: &[u8]) -> Option<(&[u8], &[u8])>
     ensures none { IfNone result (All (λ octet. octet ≢ newline) octets.now) }
     ensures front { IfSome result (λ parts. All (λ octet. octet ≢ newline) parts.0.now) }
     ensures whole { IfSome result (λ parts. octets.now ≡ parts.0.now ++ newline ∷ parts.1.now) }
@@ -29,8 +29,8 @@ fn cut_at_newline(octets: &[u8]) -> Option<(&[u8], &[u8])>
     }
 }
 
-/// The first line, without its NEWLINE, and what stands behind it.
-fn cut_line(octets: &[u8]) -> (&[u8], &[u8])
+/// The first line, without its NEWLINE, and what stands behind it. The last line may lack its NEWLINE.
+pub fn cut_line(octets: &[u8]) -> (&[u8], &[u8])
     requires { 0 < length octets.now }
     ensures lines { lines_of octets.now ≡ result.0.now ∷ lines_of result.1.now }
     ensures shorter { length result.1.now < length octets.now }

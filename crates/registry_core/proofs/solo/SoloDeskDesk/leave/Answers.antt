@@ -1,20 +1,14 @@
-use Rattle.std.proofs.Common.{◌≡◌, ℕ, None, refl, ap, subst}
-use Rattle.histories.specs.Answered.{stored_unit}
+use Rattle.std.proofs.Common.{ℕ, ap, subst}
 use Rattle.registry_core.specs.Ledgers.{entry, leaving}
 use Rattle.registry_core.specs.Desks.{Adds}
 use Rattle.registry_core.specs.Alone.{Alone, told_alone}
 use Rattle.registry_core.proofs.Alone.{keeps_entry, adds, is_sound}
-use Rattle.registry_core.specs.declared.leaving.Leaving.{Leaving}
-use Rattle.registry_core.specs.declared.leaving.Leaving.TheVariants.{Left as AsLeft, Lost as AsLost}
+use Rattle.registry_core.proofs.Keeping.{leaving_stores}
 use Rattle.registry_core.proofs.solo.SoloDeskDesk.leave.Goals as goal
-
-none_stored : (how : Leaving) → stored_unit (leaving how) ≡ None
-none_stored AsLeft = refl
-none_stored AsLost = refl
 
 pub invariant_of-self : goal.invariant_of-self
 invariant_of-self g c =
-    keeps_entry g.S.Shelf.kept g.S.Shelf.held c.self.inside.opening.value c.self.inside.book c.leave.new.self (entry c.args.conn (leaving c.args.how)) (none_stored c.args.how) c.self.invariant c.leave.ensures.left c.leave.ensures.shelf
+    keeps_entry g.S.Shelf.kept g.S.Shelf.held c.self.inside.opening.value c.self.inside.book c.leave.new.self (entry c.args.conn (leaving c.args.how)) (leaving_stores c.args.how) c.self.invariant c.leave.ensures.left c.leave.ensures.shelf
 
 pub returns-clause-left : goal.returns-clause-left
 returns-clause-left g c =
