@@ -1,15 +1,14 @@
 -- Texts cut at an octet: lines, and the words of a line.
-use Rattle.std.proofs.Common.{◌≡◌, ℕ, ◌+◌, ◌<◌, ◌≤◌, Bool, true, false, cond, nat_lt, List, [], ◌∷◌, ◌++◌, length, Option, Some, None, refl, sym, ap, subst, ◌∙◌, arith}
+use Rattle.std.proofs.Common.{◌≡◌, ℕ, ◌+◌, ◌<◌, ◌≤◌, Bool, true, false, cond, ◌==◌, nat_lt, List, [], ◌∷◌, ◌++◌, length, Option, Some, None, refl, sym, ap, subst, ◌∙◌, arith}
 use Rattle.std.specs.Prelude.{position, codes, Result, Err}
-use Rattle.std.specs.List.{position_or_len, before_first, after_first}
+use Rattle.std.specs.List.{onto_first, position_or_len, before_first, after_first}
 use Rattle.std.proofs.lemmas.List.{append-nil}
 use Rattle.std.proofs.lemmas.List.Sums.{position_or_len_is, fails_before_first}
 use Rattle.std.proofs.lemmas.List.Splits.{slice_split_none, slice_split_first, length-slice_split}
-use Rattle.std.proofs.lemmas.Bool.Decides.{nat_tests}
+use Rattle.std.proofs.lemmas.Bool.{lt-ltb, le-ltb}
 use Rattle.memchr.specs.Find.{IsFirstByte, is_byte}
-use Rattle.cody_words.specs.Octets.{space}
+use Rattle.cody_words.specs.Octets.{newline, space}
 use Rattle.unit_registry.specs.Lines.{lines_of}
-use Rattle.trace_text.proofs.LineCuts.{ends, lines_of-found, lines_of-none}
 use Rattle.trace_text.specs.declared.trace.Trace.{Trace}
 use Rattle.trace_text.specs.declared.reason.TraceReason.TheVariants.{MoreText}
 use Rattle.trace_text.specs.declared.reason.TraceError.{TraceError}
@@ -22,21 +21,15 @@ not_true : (b : Bool) → (b ≡ true → ⊥) → b ≡ false
 not_true true n = absurd (n refl)
 not_true false n = refl
 
-lt_true : (m n : ℕ) → m < n → nat_lt m n ≡ true
-lt_true m n l = grind (arith, nat_tests)
-
-lt_false : (m n : ℕ) → n ≤ m → nat_lt m n ≡ false
-lt_false m n l = grind (arith, nat_tests)
-
 -- the first octet of a value, by its place
 pub first_is : (mark : ℕ) (octets : List ℕ) (r : Option ℕ) → IsFirstByte (is_byte mark) octets r → r ≡ position (is_octet mark) octets
 first_is mark octets None nowhere =
     let at : position_or_len (is_octet mark) octets ≡ length octets = position_or_len_is (is_octet mark) octets (length octets) 0 (omega arith) (λ k below. not_true _ (λ passes. nowhere k (omega arith) below passes)) (λ below. absurd (omega arith)) in
-    let none : nat_lt (position_or_len (is_octet mark) octets) (length octets) ≡ false = lt_false _ _ (omega arith) in
+    let none : nat_lt (position_or_len (is_octet mark) octets) (length octets) ≡ false = le-ltb _ _ (omega arith) in
     sym (ap (λ b. cond b (Some (position_or_len (is_octet mark) octets)) None) none)
 first_is mark octets (Some place) first =
     let at : position_or_len (is_octet mark) octets ≡ place = position_or_len_is (is_octet mark) octets place 0 (let h = first.0.high in omega arith) (λ k below. not_true _ (λ passes. first.0.before k (omega arith) below passes)) (λ below. first.1) in
-    let found : nat_lt place (length octets) ≡ true = lt_true _ _ first.0.high in
+    let found : nat_lt place (length octets) ≡ true = lt-ltb _ _ first.0.high in
     sym (ap (λ n. cond (nat_lt n (length octets)) (Some n) None) at ∙ ap (λ b. cond b (Some place) None) found)
 
 -- the first word ends at the first space
@@ -51,20 +44,19 @@ words_none text none = slice_split_none (is_octet space) text (λ k d below. fai
 pub words_some : (text : List ℕ) → 0 < length (words_in text)
 words_some text = omega (arith, length-slice_split (is_octet space) text)
 
--- a text that isn't empty has a line
-pub lines_some : (text : List ℕ) → 0 < length text → (line : List ℕ) × (lines : List (List ℕ)) × (lines_of text ≡ line ∷ lines)
-lines_some text some = by (nat_lt (position_or_len ends text) (length text)) refl
-  where
-    by : (b : Bool) → nat_lt (position_or_len ends text) (length text) ≡ b → (line : List ℕ) × (lines : List (List ℕ)) × (lines_of text ≡ line ∷ lines)
-    by true e = (_, _, lines_of-found text (grind (arith, nat_tests)))
-    by false e = (_, _, lines_of-none text (grind (arith, nat_tests)) some)
-
 -- the first line of a trace, word by word
 pub head_text : (workers limit : List ℕ) → codes "modmap-trace 1" ++ behind (workers ∷ limit ∷ []) ≡ spaced (codes "modmap-trace" ∷ codes "1" ∷ workers ∷ limit ∷ [])
 head_text workers limit = ap (λ last. codes "modmap-trace 1" ++ space ∷ (workers ++ space ∷ last)) (append-nil limit)
 
 -- text behind the last line
 pub more_text : (trace : Trace) (number : ℕ) (text : List ℕ) (answer : Result Trace TraceError) → 0 < length text → answer ≡ Err (Text (number + 1) MoreText) → Answers (if_last trace number (lines_of text)) answer
-more_text trace number text answer some e =
-    let first = lines_some text some in
-    subst (λ (r : Result Trace TraceError). Answers (if_last trace number (lines_of text)) r) (sym e) (subst (λ (ls : List (List ℕ)). Answers (if_last trace number ls) (Err (Text (number + 1) MoreText))) (sym first.2) refl)
+more_text trace number [] answer some e = absurd (omega arith)
+more_text trace number (c ∷ text) answer some e = subst (λ (r : Result Trace TraceError). Answers (if_last trace number (lines_of (c ∷ text))) r) (sym e) (by (c == newline) (lines_of text))
+  where
+    fault : Result Trace TraceError
+    fault = Err (Text (number + 1) MoreText)
+
+    by : (b : Bool) (lines : List (List ℕ)) → Answers (if_last trace number (cond b ([] ∷ lines) (onto_first c lines))) fault
+    by true lines = refl
+    by false [] = refl
+    by false (line ∷ lines) = refl

@@ -1,9 +1,8 @@
 -- Lines of a trace, by their words.
-use Rattle.std.proofs.Common.{◌≡◌, ℕ, ◌≤◌, Bool, true, false, ◌&&◌, nat_lt, List, [], ◌∷◌, Option, Some, None, refl, sym, ap, subst, ◌∙◌, arith, true≢false}
+use Rattle.std.proofs.Common.{◌≡◌, ℕ, Bool, true, false, ◌&&◌, nat_lt, List, [], ◌∷◌, Option, Some, None, refl, sym, ap, subst, ◌∙◌, arith, true≢false}
 use Rattle.std.specs.Prelude.{codes, decimal, option_map, nat_le, IfSome, if◌then◌else◌, ◌==◌}
 use Rattle.std.specs.Str.{bytes_eq}
-use Rattle.std.proofs.lemmas.Bool.{and_parts, and_from, cond-true, cond-false, eqb-true}
-use Rattle.std.proofs.lemmas.Bool.Decides.{nat_tests}
+use Rattle.std.proofs.lemmas.Bool.{and_parts, and_from, cond-true, cond-false, eqb-true, le-leb, leb-true}
 use Rattle.mapper_requests.specs.declared.request.Bad.TheVariants.{UnknownVerb, WrongWords, BadNumber}
 use Rattle.unit_registry.specs.declared.act.Act.{Act}
 use Rattle.unit_registry.specs.declared.act.Act.TheVariants.{Open, Hello, Repo, Export, Import, Compiled, Translate, Bad, Pause, Left, Lost, Done}
@@ -21,15 +20,6 @@ use Rattle.trace_text.proofs.Spelled.{some_same, none_some, map_is, bytes_same, 
 -- the words are the entry's, and it is one of a trace
 abbrev pub IsWritten : List (List ℕ) → Entry → Type 0
 IsWritten words entry = (words ≡ entry_words entry) × IsTraceEntry entry
-
-same_item : (one other : Entry) → (let l : BodyLine = body.Item one in l) ≡ body.Item other → one ≡ other
-same_item one other e = cc
-
-same_end : (one other : ℕ) → (let l : BodyLine = body.End one in l) ≡ body.End other → one ≡ other
-same_end one other e = cc
-
-item_end : (entry : Entry) (count : ℕ) → (let l : BodyLine = body.Item entry in l) ≡ body.End count → ⊥
-item_end entry count e = cc
 
 -- ---- what was read is written so
 
@@ -160,17 +150,11 @@ is_head-parts workers limit t =
     let third = and_parts (nat_le 1 workers && nat_le workers most_workers && nat_le workers limit) (nat_le limit greatest_limit) t in
     let second = and_parts (nat_le 1 workers && nat_le workers most_workers) (nat_le workers limit) third.0 in
     let first = and_parts (nat_le 1 workers) (nat_le workers most_workers) second.0 in
-    record { some = le_is 1 workers first.0; few = le_is workers most_workers first.1; room = le_is workers limit second.1; bound = le_is limit greatest_limit third.1 }
-  where
-    le_is : (m n : ℕ) → nat_le m n ≡ true → m ≤ n
-    le_is m n e = grind (arith, nat_tests)
+    record { some = leb-true 1 workers first.0; few = leb-true workers most_workers first.1; room = leb-true workers limit second.1; bound = leb-true limit greatest_limit third.1 }
 
 is_head-from : (workers limit : ℕ) → IsHead workers limit → is_head workers limit ≡ true
 is_head-from workers limit h =
-    and_from _ _ (and_from _ _ (and_from _ _ (le_from 1 workers h.some) (le_from workers most_workers h.few)) (le_from workers limit h.room)) (le_from limit greatest_limit h.bound)
-  where
-    le_from : (m n : ℕ) → m ≤ n → nat_le m n ≡ true
-    le_from m n l = grind (arith, nat_tests)
+    and_from _ _ (and_from _ _ (and_from _ _ (le-leb 1 workers h.some) (le-leb workers most_workers h.few)) (le-leb workers limit h.room)) (le-leb limit greatest_limit h.bound)
 
 pub head_small : (workers limit : ℕ) → IsHead workers limit → IsNumber workers × IsNumber limit
 head_small workers limit h =

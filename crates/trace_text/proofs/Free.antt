@@ -1,9 +1,9 @@
 -- Words without spaces and NEWLINEs: a line is its words, and a text its lines.
-use Rattle.std.proofs.Common.{◌≡◌, ◌⊎◌, inl, inr, ℕ, ◌<◌, Bool, true, false, cond, not, ◌&&◌, ◌==◌, List, [], ◌∷◌, ◌++◌, Option, Some, None, refl, sym, ap, ◌∙◌, arith, true≢false, eqb-true}
+use Rattle.std.proofs.Common.{◌≡◌, ◌⊎◌, inl, inr, ℕ, ◌<◌, Bool, true, false, cond, not, ◌&&◌, ◌==◌, List, [], ◌∷◌, ◌++◌, Option, Some, None, refl, sym, ap, ◌∙◌, arith, eqb-true}
 use Rattle.std.specs.Prelude.{codes, decimal, IfSome, flat_map, All, nat_le, nat_lt, if◌then◌else◌}
 use Rattle.std.specs.Char.{is_ascii_digit}
 use Rattle.std.specs.List.{list_all, onto_first}
-use Rattle.std.proofs.lemmas.Bool.{and_parts, and_from, cond-false}
+use Rattle.std.proofs.lemmas.Bool.{and_parts, and_from, cond-false, not-true}
 use Rattle.std.proofs.lemmas.Bool.Decides.{nat_tests}
 use Rattle.std.proofs.lemmas.List.{append-nil, append_assoc, append_cancel_right}
 use Rattle.std.proofs.lemmas.List.Elements.{All-nil, All-cons}
@@ -31,15 +31,11 @@ use Rattle.trace_text.proofs.Spelled.{none_some, conn_small}
 abbrev pub is_free : ℕ → List ℕ → Bool
 is_free mark word = list_all (λ c. not (is_octet mark c)) word
 
-not_is : (b : Bool) → not b ≡ true → b ≡ false
-not_is true e = absurd (true≢false (sym e))
-not_is false e = refl
-
 pub free_All : (mark : ℕ) → (word : List ℕ) → is_free mark word ≡ true → All (λ c. is_octet mark c ≡ false) word
 free_All mark [] e = All-nil _
 free_All mark (c ∷ word) e =
     let parts = and_parts (not (is_octet mark c)) _ e in
-    All-cons (λ x. is_octet mark x ≡ false) c word (not_is (is_octet mark c) parts.0) (free_All mark word parts.1)
+    All-cons (λ x. is_octet mark x ≡ false) c word (not-true (is_octet mark c) parts.0) (free_All mark word parts.1)
 
 digit_free : (mark c : ℕ) → mark < 48 → is_ascii_digit c ≡ true → not (c == mark) ≡ true
 digit_free mark c small e = grind (arith, nat_tests)
@@ -161,7 +157,7 @@ line_front : (rest : List ℕ) → (line : List ℕ) → is_free newline line �
 line_front rest [] free = refl
 line_front rest (c ∷ line) free =
     let parts = and_parts (not (is_octet newline c)) _ free in
-    cond-false _ _ _ (not_is (is_octet newline c) parts.0) ∙ ap (onto_first c) (line_front rest line parts.1)
+    cond-false _ _ _ (not-true (is_octet newline c) parts.0) ∙ ap (onto_first c) (line_front rest line parts.1)
 
 pub lines_front : (rest : List ℕ) → (lines : List (List ℕ)) → AreLines lines → lines_of (text_of lines ++ rest) ≡ lines ++ lines_of rest
 lines_front rest [] free = refl
@@ -177,10 +173,10 @@ lines_back lines free =
 
 line_alone : (c : ℕ) (line : List ℕ) → is_free newline (c ∷ line) ≡ true → lines_of (c ∷ line) ≡ (c ∷ line) ∷ []
 line_alone c [] free =
-    cond-false _ _ _ (not_is (is_octet newline c) (and_parts (not (is_octet newline c)) _ free).0)
+    cond-false _ _ _ (not-true (is_octet newline c) (and_parts (not (is_octet newline c)) _ free).0)
 line_alone c (d ∷ line) free =
     let parts = and_parts (not (is_octet newline c)) _ free in
-    cond-false _ _ _ (not_is (is_octet newline c) parts.0) ∙ ap (onto_first c) (line_alone d line parts.1)
+    cond-false _ _ _ (not-true (is_octet newline c) parts.0) ∙ ap (onto_first c) (line_alone d line parts.1)
 
 text_push : (last : List ℕ) → (lines : List (List ℕ)) → text_of (lines ++ last ∷ []) ≡ (text_of lines ++ last) ++ newline ∷ []
 text_push last [] = append-nil (ended last)

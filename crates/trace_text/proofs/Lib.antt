@@ -1,4 +1,4 @@
-pub mod LineCuts
+pub mod Following
 pub mod Cuts
 pub mod Spelled
 pub mod Forms

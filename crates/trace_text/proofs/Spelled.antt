@@ -1,5 +1,5 @@
 -- Numbers, units and acts, by the words in which they are written.
-use Rattle.std.proofs.Common.{◌≡◌, ℕ, ◌<◌, ◌≤◌, ◌^◌, Bool, true, false, ◌&&◌, nat_lt, List, [], ◌∷◌, Option, Some, None, refl, sym, ap, subst, ◌∙◌, arith}
+use Rattle.std.proofs.Common.{◌≡◌, ◌≢◌, ℕ, ◌<◌, ◌≤◌, ◌^◌, Bool, true, false, ◌&&◌, nat_lt, List, [], ◌∷◌, Option, Some, None, refl, sym, ap, subst, ◌∙◌, arith}
 use Rattle.std.specs.Prelude.{codes, decimal, option_map, nat_le, IfSome, if◌then◌else◌}
 use Rattle.std.specs.Str.{bytes_eq}
 use Rattle.std.proofs.lemmas.Bool.{and_parts, cond-true, cond-false}
@@ -73,6 +73,15 @@ unfolding number_in
 number_in-back n small =
     ap (λ o. as_written o (decimal n)) (number_back n small)
     ∙ cond-true _ _ _ (bytes_own (decimal n))
+
+-- what `read_decimal` tells is that number
+pub read_is : (word : List ℕ) (r : Option ℕ) → IfSome r IsNumber → IfSome r (λ n. word ≡ decimal n) → (r ≡ None → (n : ℕ) → IsNumber n → word ≢ decimal n) → r ≡ number_in word
+read_is word (Some n) small same none = sym (ap number_in same ∙ number_in-back n small)
+read_is word None small same none = by (number_in word) refl
+  where
+    by : (o : Option ℕ) → number_in word ≡ o → None ≡ o
+    by None e = refl
+    by (Some n) e = let found = number_in-is word n e in absurd (none refl n found.1 found.0)
 
 -- what spells no number isn't how one is written
 pub not_number : (n : ℕ) (word : List ℕ) → IsNumber n → number_of word ≡ None → bytes_eq (decimal n) word ≡ false

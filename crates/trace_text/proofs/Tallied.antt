@@ -24,7 +24,7 @@ use Rattle.trace_text.specs.declared.trace.Trace.{Trace}
 use Rattle.trace_text.specs.declared.tally.Counts.{Counts}
 use Rattle.trace_text.specs.declared.tally.Tally.{Tally}
 use Rattle.trace_text.specs.Tallies.{is_open_in, table_with, counts_with, is_past_limit, is_full_house, tally_fault, IsTally}
-use Rattle.trace_text.specs.Following.{Follows}
+use Rattle.trace_text.proofs.Following.{Follows}
 
 -- ---- the checks, one behind the other
 

@@ -5,4 +5,3 @@ pub mod Legal
 pub mod Working
 pub mod Reading
 pub mod Tallies
-pub mod Following

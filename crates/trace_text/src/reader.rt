@@ -9,9 +9,9 @@ ghost use Rattle.trace_text.specs.Reading.{at_end, begun, if_last, read_behind, 
 use crate::lines::{BodyLine, Head, read_head, read_line};
 use crate::reason::{TraceError, TraceReason};
 use crate::trace::Trace;
-use crate::words::cut_line;
 use mm_outside::List;
 use std::alloc::Global;
+use unit_registry::cut_line;
 
 /// A line at fault.
 fn fault<T>(line: u32, reason: TraceReason) -> Result<T, TraceError>

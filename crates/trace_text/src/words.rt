@@ -1,14 +1,12 @@
-//! The lines of a text, and the words of a line.
+//! The words of a line.
 
-ghost use Rattle.std.specs.Prelude.{◌≡◌, ◌≤◌, ◌<◌, ◌∷◌, [], length, position, decimal, OnSome, IfSome, IfNone};
-ghost use Rattle.std.specs.Str.{bytes_eq};
+ghost use Rattle.std.specs.Prelude.{◌≡◌, ◌≤◌, ◌<◌, ◌∷◌, [], length, position, OnSome, IfSome, IfNone};
 ghost use Rattle.std.specs.List.{position_or_len, before_first, after_first};
 ghost use Rattle.std.specs.Option.{option_map_or};
-ghost use Rattle.unit_registry.specs.Lines.{lines_of};
-ghost use Rattle.trace_text.specs.Working.{is_octet, words_in, as_written, number_in, unit_in, HasWords};
+ghost use Rattle.cody_words.specs.Octets.{space};
+ghost use Rattle.trace_text.specs.Working.{is_octet, words_in, number_in, unit_in, HasWords};
 
-use itoa::Buffer;
-use mapper_requests::read_number;
+use mapper_requests::read_decimal;
 use memchr::memchr;
 
 /// The words of a line, by how many there are.
@@ -36,22 +34,21 @@ pub(crate) enum LineWords<'a> {
     More,
 }
 
-/// The place of the first octet of this value, if there is one.
-fn place_of(mark: u8, octets: &[u8]) -> Option<usize>
-    ensures { result ≡ position (is_octet mark) octets.now }
+/// The place of the first space, if there is one.
+fn place_of_space(octets: &[u8]) -> Option<usize>
+    ensures { result ≡ position (is_octet space) octets.now }
 {
-    memchr(mark, octets)
+    memchr(b' ', octets)
 }
 
-/// What stands before the first octet of this value, and what stands behind it, if there is one.
-fn cut_at(mark: u8, octets: &[u8]) -> Option<(&[u8], &[u8])>
-    ensures none { IfNone result (length octets.now ≤ position_or_len (is_octet mark) octets.now) }
-    ensures found { OnSome result (position_or_len (is_octet mark) octets.now < length octets.now) }
-    ensures front { IfSome result (λ parts. parts.0.now ≡ before_first (is_octet mark) octets.now) }
-    ensures back { IfSome result (λ parts. parts.1.now ≡ after_first (is_octet mark) octets.now) }
-    ensures shorter { IfSome result (λ parts. length parts.1.now < length octets.now) }
+/// What stands before the first space, and what stands behind it, if there is one.
+fn cut_at_space(octets: &[u8]) -> Option<(&[u8], &[u8])>
+    ensures none { IfNone result (length octets.now ≤ position_or_len (is_octet space) octets.now) }
+    ensures found { OnSome result (position_or_len (is_octet space) octets.now < length octets.now) }
+    ensures front { IfSome result (λ parts. parts.0.now ≡ before_first (is_octet space) octets.now) }
+    ensures back { IfSome result (λ parts. parts.1.now ≡ after_first (is_octet space) octets.now) }
 {
-    match place_of(mark, octets) {
+    match place_of_space(octets) {
         Some(at) => {
             let (front, _) = octets.split_at(at);
             let (_, back) = octets.split_at(at + 1);
@@ -61,24 +58,12 @@ fn cut_at(mark: u8, octets: &[u8]) -> Option<(&[u8], &[u8])>
     }
 }
 
-/// The first line, without its NEWLINE, and what stands behind it.
-pub(crate) fn cut_line(octets: &[u8]) -> (&[u8], &[u8])
-    requires { 0 < length octets.now }
-    ensures lines { lines_of octets.now ≡ result.0.now ∷ lines_of result.1.now }
-    ensures shorter { length result.1.now < length octets.now }
-{
-    match cut_at(b'\n', octets) {
-        Some((line, behind)) => (line, behind),
-        None => (octets, b""),
-    }
-}
-
 /// The first word, and what stands behind its space, if there is one.
 fn cut_word(text: &[u8]) -> (&[u8], Option<&[u8]>)
     ensures { words_in text.now
         ≡ result.0.now ∷ option_map_or (λ rest. words_in rest.now) result.1 [] }
 {
-    match cut_at(b' ', text) {
+    match cut_at_space(text) {
         Some((word, rest)) => (word, Some(rest)),
         None => (text, None),
     }
@@ -117,35 +102,11 @@ pub(crate) fn cut_words(line: &[u8]) -> LineWords<'_>
     }
 }
 
-/// Whether the word is the number as it is written: without leading zeros.
-fn is_written(number: u32, word: &[u8]) -> bool
-    ensures { result ≡ bytes_eq (decimal number) word.now }
-{
-    Buffer::new().format(number).as_bytes() == word
-}
-
-/// The number, where the word is how it is written.
-fn as_written(number: Option<u32>, word: &[u8]) -> Option<u32>
-    ensures { result ≡ as_written number word.now }
-{
-    match number {
-        Some(number) => {
-            if is_written(number, word) {
-                Some(number)
-            } else {
-                None
-            }
-        }
-        None => None,
-    }
-}
-
 /// The number that the word is, without leading zeros and at most 4,294,967,295.
-#[tactic(auto, unfolding(crate::specs::Working::number_in))]
 pub(crate) fn number_in(word: &[u8]) -> Option<u32>
     ensures { result ≡ number_in word.now }
 {
-    as_written(read_number(word), word)
+    read_decimal(word)
 }
 
 /// The unit that the word is, where this word stands for none.

@@ -1,4 +1,4 @@
-use Rattle.trace_text.specs.Following.{Follows}
+use Rattle.trace_text.proofs.Following.{Follows}
 use Rattle.trace_text.proofs.legal.check_legal.Given as goal
 
 abbrev pub invariant-loop-place : goal.invariant-loop-place

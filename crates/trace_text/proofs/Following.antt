@@ -1,4 +1,4 @@
--- Working definitions: a check that has gone over the first entries of a trace.
+-- A check that has gone over the first entries of a trace.
 use Rattle.std.specs.Prelude.{◌≤◌, ℕ, take}
 use Rattle.unit_registry.specs.Projects.{ProjectView}
 use Rattle.histories.specs.Histories.{noted_of, IsLegal}
