@@ -1,6 +1,6 @@
 -- The rule at the start, and what it says of a seat with all worker numbers.
-use Rattle.std.proofs.Common.{◌≡◌, ℕ, zero, suc, ◌+◌, ◌-◌, ◌<◌, ◌≤◌, Bool, List, [], ◌∷◌, length, Some, IsTrue, IsFalse, refl, sym, ap, subst, ◌∙◌, inl, inr, arith}
-use Rattle.std.specs.Prelude.{Option}
+use Rattle.std.proofs.Common.{◌≡◌, ℕ, zero, suc, ◌+◌, ◌-◌, ◌<◌, ◌≤◌, Bool, true, false, nat_lt, List, [], ◌∷◌, ◌++◌, length, Some, IsTrue, IsFalse, refl, sym, ap, subst, ◌∙◌, inl, inr, arith, append-nil, length-append, ltb-false}
+use Rattle.std.specs.Prelude.{Option, if◌then◌else◌}
 use Rattle.std.proofs.lemmas.List.Elements.{All-nil}
 use mathlib.Core.Logic.{dite}
 use mathlib.Core.Option.{some, some-injective, some-ne-none}
@@ -13,12 +13,32 @@ use Rattle.histories.specs.Entries.{no_connection}
 use Rattle.registry_core.specs.Ledgers.{LedgerView, IsLedger}
 use Rattle.ruled_history.specs.declared.board.View.{View}
 use Rattle.ruled_history.specs.declared.board.Stage.TheVariants.{Idle, Serves}
-use Rattle.ruled_history.specs.Runs.{AreAllPlaces, once_below, made_at}
+use Rattle.ruled_history.specs.Runs.{StartsWith, AreAllPlaces, once_below, made_at}
 use Rattle.ruled_history.specs.Rule.{SeatFits, SlotFits}
 use Rattle.ruled_history.specs.Views.{with_entries, tickets_at, tickets, share_of, first_view}
 use Rattle.ruled_history.proofs.Counts.{sum_two, made_all}
 use Rattle.ruled_history.proofs.Histories.{all_got}
 use Rattle.ruled_history.proofs.Turning.{Rule}
+
+-- ---- a list and its beginning
+
+-- a beginning that isn't shorter is the whole
+pub none_behind : {A : Type 0} (whole front : List A) → StartsWith whole front → length whole ≤ length front → whole ≡ front
+none_behind {A} whole front begins le = by begins.0 begins.1
+  where
+    by : (rest : List A) → whole ≡ front ++ rest → whole ≡ front
+    by [] is = is ∙ append-nil front
+    by (x ∷ rest) is = absurd (omega (arith, ap length is, length-append front (x ∷ rest)))
+
+-- where a place isn't one of so many, they are no more
+pub none_from : (place count : ℕ) → 0 ≡ once_below place count → count ≤ place
+none_from place count none = by (nat_lt place count) refl
+  where
+    by : (b : Bool) → nat_lt place count ≡ b → count ≤ place
+    by true is = let one : once_below place count ≡ 1 = ap (λ (b : Bool). if b then 1 else 0) is in absurd (omega arith)
+    by false is = ltb-false place count is
+
+-- ---- the rule at the start
 
 starts_seat : {away : Type 0} (opening : LedgerView) (room : ℕ) (j : ℕ) (v : View) → 0 < opening.workers → get_elem? (first_view opening.workers room ∷ []) j ≡ some v → SeatFits opening [] [] away 0 0 (λ _. 0) (λ _. 0) (λ _. 0) j v
 starts_seat {away} opening room zero v some_worker e = subst (SeatFits opening [] [] away 0 0 (λ _. 0) (λ _. 0) (λ _. 0) 0) (some-injective (first_view opening.workers room) v e) record {
@@ -89,3 +109,9 @@ module _ {B : Type 0} (Stands : B → List Entry → Type 0) (metered : Bool) (o
       let zero_first : v.first ≡ 0 = omega arith in
       ok.places place ∙ (ap (λ (z : ℕ). made_at z v.share r.makers place) zero_first ∙ (ap (λ (z : ℕ). made_at 0 z r.makers place) all
       ∙ (made_all opening.workers r.makers place (λ k w at_k. all_got (λ (maker : ℕ). maker < opening.workers) r.makers k w r.makers_below at_k) ∙ ap (once_below place) r.beside)))
+
+  -- which are those that it has seen
+  pub all_seen : (s : State (Option B) View) (r : Rule Stands metered opening s) (id : ℕ) (v : View) → get_elem? s.views id ≡ some v → 0 < opening.workers → v.share ≡ opening.workers → r.entries ≡ v.seen
+  all_seen s r id v at some_worker all =
+      let ok = r.each_seat id v at in
+      none_behind r.entries v.seen ok.begins (none_from (length v.seen) (length r.entries) (sym (ok.early (length v.seen) (omega arith)) ∙ all_places s r id v at some_worker all (length v.seen)))

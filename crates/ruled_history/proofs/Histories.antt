@@ -3,8 +3,6 @@ use Rattle.std.proofs.Common.{◌≡◌, ◌≢◌, ℕ, suc, ◌+◌, ◌<◌, 
 use Rattle.std.specs.Prelude.{slice_get}
 use Rattle.std.proofs.lemmas.List.{get_or_append_left}
 use Rattle.std.proofs.lemmas.Option.{slice_get_within, get_or_from_slice_get}
-use Rattle.unit_registry.specs.declared.act.Act.{Act}
-use Rattle.unit_registry.specs.declared.act.Act.TheVariants.{Open, Hello, Repo, Export, Import, Compiled, Translate, Bad, Pause, Left, Lost, Done}
 use Rattle.unit_registry.specs.Acts.{is_open_act, is_done}
 use Rattle.histories.specs.declared.entry.Entry.{Entry}
 use Rattle.histories.specs.declared.answered.Answered.{Answered}
@@ -38,24 +36,6 @@ goes _ = 0
 abbrev pub ends : Effect → ℕ
 ends Ends = 1
 ends _ = 0
-
-abbrev pub does_end : Effect → Bool
-does_end Ends = true
-does_end _ = false
-
-pub done_ends : (act : Act) → is_done act ≡ does_end (effect_of act)
-done_ends Open = refl
-done_ends (Hello version unit) = refl
-done_ends Repo = refl
-done_ends (Export unit) = refl
-done_ends (Import unit name_only) = refl
-done_ends (Compiled unit stored) = refl
-done_ends (Translate header) = refl
-done_ends (Bad why) = refl
-done_ends Pause = refl
-done_ends Left = refl
-done_ends Lost = refl
-done_ends Done = refl
 
 -- ---- each entry
 

@@ -17,7 +17,8 @@ use Rattle.ruled_history.specs.Runs.{times, Has}
 use Rattle.ruled_history.specs.Rule.{SeatFits}
 use Rattle.ruled_history.specs.Views.{with_entries, is_done_at, opened_after, dones_after, MayAddBy}
 use Rattle.ruled_history.proofs.Counts.{one_if, count_same, count-append, count_one, count_less, has_left, has_snoc, has_last, once_snoc}
-use Rattle.ruled_history.proofs.Histories.{opens, goes, ends, does_end, done_ends, own_more, may_enter, open_other, few_opened}
+use Rattle.histories.proofs.Counting.{does_end, done_act}
+use Rattle.ruled_history.proofs.Histories.{opens, goes, ends, own_more, may_enter, open_other, few_opened}
 
 -- ---- Dones among the own places
 
@@ -74,7 +75,7 @@ module _ (opening : LedgerView) (metered : Bool) (entries : List Entry) (makers 
     changes_by Opens kind may come turns =
         let is : newest.conn ≡ opened_in (with_entries opening entries) = come.next in
         let free = may.0 in
-        let no_end : is_done newest.act ≡ false = done_ends newest.act ∙ ap does_end kind in
+        let no_end : is_done newest.act ≡ false = done_act newest.act ∙ ap does_end kind in
         let kept : count_by (is_open_in (with_entries opening (entries ++ newest ∷ []))) view.connections ≡ count_by (is_open_in (with_entries opening entries)) view.connections =
         count_same (is_open_in (with_entries opening (entries ++ newest ∷ []))) (is_open_in (with_entries opening entries)) view.connections (λ c h. open_other opening entries newest c (λ at. let own = ok.connections_own c h in let lt = own.1 in omega arith)) in
         let one : count_by (is_open_in (with_entries opening (entries ++ newest ∷ []))) (newest.conn ∷ []) ≡ 1 = count_one (is_open_in (with_entries opening (entries ++ newest ∷ []))) newest.conn true turns.1 in
@@ -96,7 +97,7 @@ module _ (opening : LedgerView) (metered : Bool) (entries : List Entry) (makers 
     changes_by Asks kind may come turns =
         let own = ok.connections_own newest.conn may.0 in
         let seats = ok.enough in
-        let no_end : is_done newest.act ≡ false = done_ends newest.act ∙ ap does_end kind in
+        let no_end : is_done newest.act ≡ false = done_act newest.act ∙ ap does_end kind in
         let still : (c : ℕ) → is_open_in (with_entries opening entries) c ≡ is_open_in (with_entries opening (entries ++ newest ∷ [])) c = λ c. dite (ℕ_discrete newest.conn c)
         (λ at. subst (λ (z : ℕ). is_open_in (with_entries opening entries) z ≡ is_open_in (with_entries opening (entries ++ newest ∷ [])) z) at (turns.0 ∙ sym turns.1))
         (λ ne. sym (open_other opening entries newest c ne)) in
@@ -119,7 +120,7 @@ module _ (opening : LedgerView) (metered : Bool) (entries : List Entry) (makers 
         let own = ok.connections_own newest.conn may in
         let seats = ok.enough in
         let most = ok.connections_once newest.conn in
-        let no_end : is_done newest.act ≡ false = done_ends newest.act ∙ ap does_end kind in
+        let no_end : is_done newest.act ≡ false = done_act newest.act ∙ ap does_end kind in
         let less : count_by (is_open_in (with_entries opening (entries ++ newest ∷ []))) view.connections + 1 ≡ count_by (is_open_in (with_entries opening entries)) view.connections =
         count_less (is_open_in (with_entries opening entries)) (is_open_in (with_entries opening (entries ++ newest ∷ []))) newest.conn view.connections (omega arith) (λ c ne. sym (open_other opening entries newest c (λ at. ne (sym at)))) turns.0 turns.1 in
         record {
@@ -141,7 +142,7 @@ module _ (opening : LedgerView) (metered : Bool) (entries : List Entry) (makers 
         let free = may.1 in
         let is = may.0 in
         let few = few_opened opening entries was in
-        let an_end : is_done newest.act ≡ true = done_ends newest.act ∙ ap does_end kind in
+        let an_end : is_done newest.act ≡ true = done_act newest.act ∙ ap does_end kind in
         let still : count_by (is_open_in (with_entries opening entries)) view.connections ≡ count_by (is_open_in (with_entries opening (entries ++ newest ∷ []))) view.connections =
         count_same (is_open_in (with_entries opening entries)) (is_open_in (with_entries opening (entries ++ newest ∷ []))) view.connections (λ c h. sym (open_other opening entries newest c (λ at. let own = ok.connections_own c h in let lt = own.1 in omega arith))) in
         record {
@@ -166,7 +167,7 @@ module _ (opening : LedgerView) (metered : Bool) (entries : List Entry) (makers 
   -- the Dones among the places, with the entry
   pub dones_with : (newest : Entry) → dones_after (effect_of newest.act) view.dones ≡ count_by (is_done_at (view.seen ++ newest ∷ [])) (view.places ++ length view.seen ∷ [])
   dones_with newest =
-      let last : is_done_at (view.seen ++ newest ∷ []) (length view.seen) ≡ does_end (effect_of newest.act) = done_last view.seen newest ∙ done_ends newest.act in
+      let last : is_done_at (view.seen ++ newest ∷ []) (length view.seen) ≡ does_end (effect_of newest.act) = done_last view.seen newest ∙ done_act newest.act in
       ends_by (effect_of newest.act) view.dones
       ∙ (ap (λ (z : ℕ). z + one_if (does_end (effect_of newest.act))) (ok.dones_is ∙ sym (dones_stay view.seen (newest ∷ []) view.places ok.early))
       ∙ (ap (λ (z : ℕ). count_by (is_done_at (view.seen ++ newest ∷ [])) view.places + z) (sym (count_one (is_done_at (view.seen ++ newest ∷ [])) (length view.seen) (does_end (effect_of newest.act)) last))

@@ -1,6 +1,6 @@
 -- What a desk tells, by what its seat knows, before and after a turn.
-use Rattle.std.proofs.Common.{◌≡◌, ℕ, ◌+◌, ◌-◌, ◌<◌, ◌≤◌, Bool, true, false, ◌||◌, ◌&&◌, List, [], ◌∷◌, ◌++◌, length, All, get_or, Option, Some, None, is_some, refl, sym, ap, ap₂, subst, ◌∙◌, arith, true≢false}
-use Rattle.std.specs.Prelude.{if◌then◌else◌, Result, Ok, Err, IfErr, IsOk}
+use Rattle.std.proofs.Common.{◌≡◌, ℕ, ◌-◌, ◌<◌, ◌≤◌, Bool, true, false, ◌||◌, ◌&&◌, List, [], ◌∷◌, ◌++◌, length, All, get_or, Option, Some, None, is_some, refl, sym, ap, ap₂, subst, ◌∙◌, arith, true≢false}
+use Rattle.std.specs.Prelude.{if◌then◌else◌}
 use Rattle.std.proofs.Math.Bool.{and-false, or-false, or-true}
 use Rattle.std.proofs.lemmas.Bool.{and_parts}
 use Rattle.std.proofs.lemmas.List.Elements.{Contains-get_or}
@@ -12,9 +12,8 @@ use Rattle.histories.specs.declared.answered.Answered.{Answered}
 use Rattle.histories.specs.Answered.{is_accepted, is_stored, stored_unit, stores}
 use Rattle.histories.specs.Histories.{with_said}
 use Rattle.histories.specs.Counts.{Effect, Opens, Asks, Goes, Ends, effect_of, ChangesOpen, ChangesDone}
-use Rattle.registry_core.specs.declared.full.Full.{Full}
 use Rattle.registry_core.specs.Books.{BookView}
-use Rattle.registry_core.specs.Ledgers.{LedgerView, Appends, IsFull, said_in, said_to, with_entry, is_open_in, reserved_in, leaving}
+use Rattle.registry_core.specs.Ledgers.{LedgerView, Appends, said_in, said_to, with_entry, is_open_in, leaving}
 use Rattle.registry_core.specs.declared.leaving.Leaving.{Leaving}
 use Rattle.registry_core.specs.declared.leaving.Leaving.TheVariants.{Left as AsLeft, Lost as AsLost}
 use Rattle.registry_core.specs.Shelves.{ComesWith, kept_after}
@@ -85,11 +84,6 @@ module _ {S Item Held : Type 0} (kept : S → ℕ → Option Item) (held : S →
 pub one_open : (opening : LedgerView) (view : View) (conn : ℕ) → Knows opening view → Has conn view.connections → is_open_in (with_entries opening view.seen) conn ≡ true → 1 ≤ view.opened
 one_open opening view conn knows has is = let some = count_some (is_open_in (with_entries opening view.seen)) conn view.connections has is in omega (arith, knows.opened_is)
 
--- a desk with room is never refused
-pub roomy : (result : Result ℕ Full) (ledger : LedgerView) (more room : ℕ) → IfErr result (λ full. IsFull ledger more full) → length ledger.entries + reserved_in ledger + room ≤ ledger.limit → more + 1 ≤ room → IsOk result
-roomy (Ok value) ledger more room full fits enough = refl
-roomy (Err value) ledger more room full fits enough = let none_left = full.no_room in absurd (omega arith)
-
 -- ---- the book, after an entry
 
 module _ {S Item Held : Type 0} (kept : S → ℕ → Option Item) (held : S → Held) (opening book after : BookView S) (entries : List Entry) (newest : Entry) (stands : StandsAfter kept held opening book entries) (appends : Appends book.ledger newest after.ledger) where
@@ -147,11 +141,7 @@ module _ {S Item Held : Type 0} (kept : S → ℕ → Option Item) (held : S →
   pub told_adds : (newest : Entry) (place : ℕ) → place ≡ length served.seen → goes (effect_of newest.act) ≤ served.opened → after ≡ knowing before (at_stage Idle (adds newest served)) → Adds (told_seated kept held before) newest place (told_seated kept held after)
   told_adds newest place is some_open now = subst (λ (d : Seated S). Adds (told_seated kept held before) newest place (told_seated kept held d)) (sym now) (turn_adds kept held before served serving more newest place is some_open)
 
--- a connection goes with its act, which comes with no item
+-- a connection goes with its act
 pub leaving_goes : (how : Leaving) → effect_of (leaving how) ≡ Goes
 leaving_goes AsLeft = refl
 leaving_goes AsLost = refl
-
-pub leaving_stores : (how : Leaving) → stored_unit (leaving how) ≡ None
-leaving_stores AsLeft = refl
-leaving_stores AsLost = refl

@@ -15,7 +15,7 @@ use Rattle.ruled_history.specs.Views.{with_entries, sees, at_stage, Knows, MayAd
 use Rattle.ruled_history.specs.Seats.{IsServing}
 use Rattle.ruled_history.proofs.Turning.{Rule, draws, looks, passes}
 use Rattle.ruled_history.proofs.Recording.{records}
-use Rattle.ruled_history.proofs.Closing.{all_home, all_places}
+use Rattle.ruled_history.proofs.Closing.{all_home, all_places, all_seen}
 
 -- ---- the steps, for a seat whose view and slots are known by equations
 
@@ -75,7 +75,7 @@ pub record Ended {B : Type 0} (Stands : B → List Entry → Type 0) (v : View) 
   pub entries : List Entry
   pub is : x ≡ Some book
   pub stands : Stands book entries
-  pub seen : StartsWith entries v.seen
+  pub seen : entries ≡ v.seen
   pub places : AreAllPlaces v.places (length entries)
 
 pub ended : {B : Type 0} (Stands : B → List Entry → Type 0) (metered : Bool) (opening : LedgerView) (id : ℕ) (v : View) (words : List ℕ) (xs : List (Option B)) (x : Option B) → Final (Seen (Ruled Stands metered opening) id v) words xs
@@ -90,6 +90,6 @@ ended {B} Stands metered opening id v words xs x final idle all some_worker at =
       entries = r.entries;
       is = some-injective x (Some home.0) (sym at ∙ final.4 0 (Some home.0) (ap (λ hs. get_elem? hs 0) home.1));
       stands = home.2;
-      seen = (r.each_seat id v here).begins;
+      seen = all_seen Stands metered opening s r id v here some_worker all;
       places = all_places Stands metered opening s r id v here some_worker all;
     }

@@ -1,9 +1,6 @@
 -- What the worked examples use of desks, seats and the closed book.
-use Rattle.std.proofs.Common.{◌≡◌, inl, inr, ℕ, zero, suc, ◌<◌, ◌≤◌, false, true, Bool, List, [], ◌∷◌, ◌++◌, map, length, Option, Some, None, IsFalse, refl, sym, ap, subst, ◌∙◌, arith, length-append, append-nil, append_assoc}
-use Rattle.std.specs.Prelude.{nat_lt, if◌then◌else◌}
+use Rattle.std.proofs.Common.{◌≡◌, inl, inr, ℕ, zero, suc, ◌<◌, ◌≤◌, false, List, [], ◌∷◌, ◌++◌, map, length, Option, Some, None, IsFalse, refl, sym, ap, subst, ◌∙◌, arith, length-append, append_assoc}
 use Rattle.std.proofs.lemmas.Option.{slice_get_within}
-use Rattle.std.proofs.lemmas.Bool.Decides.{nat_tests}
-use Rattle.atomic_table.specs.Seated.{TableId}
 use Rattle.unit_registry.specs.declared.act.Act.{Act}
 use Rattle.unit_registry.specs.declared.act.Act.TheVariants.{Open, Hello, Export, Import, Compiled}
 use Rattle.histories.specs.declared.entry.Entry.{Entry}
@@ -13,26 +10,15 @@ use Rattle.histories.specs.Histories.{reply}
 use Rattle.histories.specs.Counts.{Asks, effect_of}
 use Rattle.histories.proofs.Stay.{replies_stay}
 use Rattle.registry_core.specs.Ledgers.{LedgerView, entry, reply_at}
-use Rattle.registry_core.specs.Desks.{DeskState, Stays, Looks, Adds, IsSound}
+use Rattle.registry_core.specs.Desks.{DeskState, Looks, Adds, IsSound}
 use Rattle.registry_core.proofs.Desks.{slice_get_before, adds_own, opens_own, adds_is_open, adds_at, stays_further, adds_go_on}
 use Rattle.ruled_history.specs.declared.board.View.{View}
 use Rattle.ruled_history.specs.Runs.{StartsWith, times, once_below, AreAllPlaces}
-use Rattle.ruled_history.specs.Seats.{Shared, Sitting, Seated, name_of, told_seated}
+use Rattle.ruled_history.specs.Seats.{Shared, Sitting}
 use Rattle.ruled_history.specs.Views.{joined, Knows, Keeps}
-use Rattle.ruled_history.specs.Examples.{four_units, Placed, at, placed_from, Stand, Made, reporting, importing, both_seats, IsFresh, Serves, Opened, Entered, Greeted, HandsOver, Told, ToldAt, IsFreshSeat, Divided, Finished}
-use Rattle.ruled_history.proofs.Counts.{begins_shorter, begins_trans}
-
--- registries of one name are one registry
-pub same_registry : (z y : TableId) → name_of z ≡ name_of y → z ≡ y
-same_registry z y e =
-    let words : z.words ≡ y.words = cc in
-    let slots : z.slots ≡ y.slots = cc in
-    let views_name : z.views_name ≡ y.views_name = cc in
-    let atom : z.atom ≡ y.atom = cc in
-    let block : z.block ≡ y.block = cc in
-    let offset : z.offset ≡ y.offset = cc in
-    let slot_names : z.slot_names ≡ y.slot_names = cc in
-    λ i. record { words = words i; slots = slots i; views_name = views_name i; atom = atom i; block = block i; offset = offset i; slot_names = slot_names i }
+use Rattle.ruled_history.specs.Examples.{four_units, Placed, at, placed_from, Stand, Made, reporting, importing, both_seats, IsFresh, HasOpen, Opened, Entered, Greeted, HandsOver, Told, ToldAt, Divided, Finished}
+use Rattle.ruled_history.proofs.Counts.{begins_shorter}
+use Rattle.ruled_history.proofs.Closing.{none_behind, none_from}
 
 -- ---- entries at their places
 
@@ -77,8 +63,8 @@ module _ {Held : Type 0} (before after : DeskState Held) where
     stand = subst (λ (es : List Entry). Stand es made) (sym looks.history) (stand_further before.seen.entries looks.since made m.stand);
   }
 
-  pub serves_opened : (conn place : ℕ) → IsFalse before.metered → IsSound after → Adds before (entry conn Open) place after → Serves conn after
-  serves_opened conn place loose sound adds = record {
+  pub has_opened : (conn place : ℕ) → IsFalse before.metered → IsSound after → Adds before (entry conn Open) place after → HasOpen conn after
+  has_opened conn place loose sound adds = record {
     own = opens_own before after (entry conn Open) place adds refl;
     there = adds_is_open before after (entry conn Open) place sound adds (inl refl);
     loose = adds.stays.metered ∙ loose;
@@ -89,17 +75,17 @@ module _ {Held : Type 0} (before after : DeskState Held) where
     opened_at = place;
     within = slice_get_within after.seen.entries place (entry conn Open) (adds_at before after (entry conn Open) place adds);
     made = made_more (entry conn Open) place [] adds (record { places_are = fresh.bare; stand = tt });
-    serves = serves_opened conn place fresh.loose sound adds;
+    has_open = has_opened conn place fresh.loose sound adds;
     stays = adds.stays;
   }
 
-  pub entered : (conn : ℕ) (act : Act) (place : ℕ) → effect_of act ≡ Asks → Serves conn before → IsSound after → Adds before (entry conn act) place after → Entered conn act place before after
-  entered conn act place asks serves sound adds = record {
+  pub entered : (conn : ℕ) (act : Act) (place : ℕ) → effect_of act ≡ Asks → HasOpen conn before → IsSound after → Adds before (entry conn act) place after → Entered conn act place before after
+  entered conn act place asks has_open sound adds = record {
     adds = adds;
-    serves = record {
-      own = adds_own before after (entry conn act) place adds conn serves.own;
+    has_open = record {
+      own = adds_own before after (entry conn act) place adds conn has_open.own;
       there = adds_is_open before after (entry conn act) place sound adds (inr asks);
-      loose = adds.stays.metered ∙ serves.loose;
+      loose = adds.stays.metered ∙ has_open.loose;
     };
   }
 
@@ -116,12 +102,9 @@ module _ {Held : Type 0} (first second third : DeskState Held) where
     opened_at = o.opened_at;
     earlier = let at_place : place ≡ length (second.seen.entries ++ e.adds.since) = e.adds.place_is in let w = o.within in omega (arith, length-append second.seen.entries e.adds.since);
     made = made_more second third (entry conn (Hello 1 unit)) place (at o.opened_at conn Open ∷ []) e.adds o.made;
-    serves = e.serves;
+    has_open = e.has_open;
     stays = stays_further first second third o.stays e.adds.stays;
   }
-
-  pub told : (made : List Placed) (place : ℕ) (answer : Option Answer) → Made second.seen.entries second.places made → Stays first second → Looks second third → answer ≡ reply_at third.seen place → Told made place answer first third
-  told made place answer m stays looks is = record { made_are = made_look second third made looks m; answer_is = is; stays = stays_further first second third stays looks.stays }
 
   -- greeted, handed over and looked at
   pub reported : (answer : Option Answer) (fourth : DeskState Held) → Greeted 0 (Some 0) 1 first second → HandsOver second third → Looks third fourth → answer ≡ reply_at fourth.seen 3 → Told (placed_from 0 reporting) 3 answer first fourth
@@ -145,28 +128,6 @@ module _ {Held : Type 0} (first second third : DeskState Held) where
       stays = stays_further first third fourth (stays_further first second third g.stays e.adds.stays) looks.stays;
     },
   )
-
--- ---- seats
-
-module _ {S Item Held : Type 0} (kept : S → ℕ → Option Item) (held : S → Held) where
-  pub fresh_desk : (desk : Seated S) → IsFreshSeat desk.seat.knows → IsFalse desk.metered → IsFresh (told_seated kept held desk)
-  fresh_desk desk fresh loose = record {
-    worker = let s = fresh.share in let o = fresh.opened in let d = fresh.dones in omega arith;
-    loose = loose;
-    bare = fresh.bare;
-  }
-
-  pub told_at : (before after : Seated S) (made : List Placed) (place : ℕ) (answer : Option Answer) → before.opening.ledger.project ≡ four_units → before.opening.ledger.workers ≡ 2 → Told made place answer (told_seated kept held before) (told_seated kept held after) → ToldAt made place answer before.seat after.seat
-  told_at before after made place answer project workers t =
-      let p : after.opening.ledger.project ≡ four_units = t.stays.project ∙ project in
-      let w : after.opening.ledger.workers ≡ 2 = t.stays.workers ∙ workers in
-      record {
-        made_are = t.made_are;
-        answer_is = t.answer_is ∙ (λ i. reply (p i) (w i) after.seat.knows.seen place);
-        registry_is = same_registry after.seat.registry before.seat.registry t.stays.name;
-        first_is = t.stays.first;
-        share_is = t.stays.share;
-      }
 
 -- ---- the whole run
 
@@ -241,21 +202,7 @@ module _ {S : Type 0} (limit : ℕ) (registry : Shared S) (one two one_after two
       }
 
 -- seven entries, of which all places are those from 0 to 6, are these
-pub closed_seven : (entries seen : List Entry) (places : List ℕ) → StartsWith entries seen → Made seen places (placed_from 0 both_seats) → AreAllPlaces places (length entries) → entries ≡ both_seats
-closed_seven entries seen places begins m all =
-    let front = begins_trans both_seats seen entries (begins_with seen both_seats m.stand) begins in
-    none_behind entries both_seats front (past (length entries) (subst (λ (ps : List ℕ). times 7 ps ≡ once_below 7 (length entries)) m.places_are (all 7)))
-  where
-    past : (n : ℕ) → 0 ≡ once_below 7 n → n ≤ 7
-    past n e = by (nat_lt 7 n) refl
-      where
-        by : (b : Bool) → nat_lt 7 n ≡ b → n ≤ 7
-        by true is = let one : once_below 7 n ≡ 1 = ap (λ (b : Bool). if b then 1 else 0) is in let none : 0 ≡ 1 = e ∙ one in absurd (omega arith)
-        by false is = grind (arith, nat_tests)
-
-    none_behind : (whole front : List Entry) → StartsWith whole front → length whole ≤ length front → whole ≡ front
-    none_behind whole front begins le = ends whole front begins.0 begins.1 le
-      where
-        ends : (whole front rest : List Entry) → whole ≡ front ++ rest → length whole ≤ length front → whole ≡ front
-        ends whole front [] is le = is ∙ append-nil front
-        ends whole front (x ∷ rest) is le = absurd (omega (arith, ap length is, length-append front (x ∷ rest)))
+pub closed_seven : (entries seen : List Entry) (places : List ℕ) → entries ≡ seen → Made seen places (placed_from 0 both_seats) → AreAllPlaces places (length entries) → entries ≡ both_seats
+closed_seven entries seen places same m all =
+    let front : StartsWith entries both_seats = subst (λ (es : List Entry). StartsWith es both_seats) (sym same) (begins_with seen both_seats m.stand) in
+    none_behind entries both_seats front (none_from 7 (length entries) (subst (λ (ps : List ℕ). times 7 ps ≡ once_below 7 (length entries)) m.places_are (all 7)))

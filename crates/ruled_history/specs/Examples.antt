@@ -11,6 +11,7 @@ use Rattle.histories.specs.Histories.{reply}
 use Rattle.registry_core.specs.Ledgers.{LedgerView, entry, is_open_in, reply_at}
 use Rattle.registry_core.specs.Desks.{DeskState, Stays, Adds}
 use Rattle.ruled_history.specs.declared.board.View.{View}
+use Rattle.ruled_history.specs.Runs.{AreAllPlaces}
 use Rattle.ruled_history.specs.Seats.{Shared, Sitting}
 
 -- the modules a and b, the header ./x.h, and main.cc, which has no name
@@ -72,7 +73,7 @@ pub record IsFresh {Held : Type 0} (desk : DeskState Held) : Type 0 where
   pub bare : desk.places ≡ []
 
 -- a desk of which the connection is open, and that isn't bound to a room of its own
-pub record Serves {Held : Type 0} (conn : ℕ) (desk : DeskState Held) : Type 0 where
+pub record HasOpen {Held : Type 0} (conn : ℕ) (desk : DeskState Held) : Type 0 where
   pub own : Contains desk.connections conn
   pub there : IsTrue (is_open_in desk.seen conn)
   pub loose : IsFalse desk.metered
@@ -82,20 +83,20 @@ pub record Opened {Held : Type 0} (conn : ℕ) (before after : DeskState Held) :
   pub opened_at : ℕ
   pub within : opened_at < length after.seen.entries
   pub made : Made after.seen.entries after.places (at opened_at conn Open ∷ [])
-  pub serves : Serves conn after
+  pub has_open : HasOpen conn after
   pub stays : Stays before after
 
 -- the desk made the entry at this place, and its connection is open
 pub record Entered {Held : Type 0} (conn : ℕ) (act : Act) (place : ℕ) (before after : DeskState Held) : Type 0 where
   pub adds : Adds before (entry conn act) place after
-  pub serves : Serves conn after
+  pub has_open : HasOpen conn after
 
 -- the desk's two entries open the connection and greet at this place
 pub record Greeted {Held : Type 0} (conn : ℕ) (unit : Option ℕ) (place : ℕ) (before after : DeskState Held) : Type 0 where
   pub opened_at : ℕ
   pub earlier : opened_at < place
   pub made : Made after.seen.entries after.places (at opened_at conn Open ∷ at place conn (Hello 1 unit) ∷ [])
-  pub serves : Serves conn after
+  pub has_open : HasOpen conn after
   pub stays : Stays before after
 
 -- the desk made two entries more, at the places 2 and 3: unit 0 is exported and reported
@@ -155,7 +156,7 @@ round_at conn opened_at told left_at = at opened_at conn Open ∷ asked_at conn 
 pub record Asked {Held : Type 0} (conn count : ℕ) (told : List ℕ) (before after : DeskState Held) : Type 0 where
   pub made : (others : List Placed) → Made before.seen.entries before.places others → Made after.seen.entries after.places (others ++ asked_at conn told)
   pub count_is : length told ≡ count
-  pub serves : Serves conn after
+  pub has_open : HasOpen conn after
   pub stays : Stays before after
 
 -- the desk's entries are those of one connection, which asked so often, at these places
@@ -176,17 +177,30 @@ pub record RoundsAt (conn count : ℕ) (told : List ℕ) (before after : Sitting
   pub first_is : after.knows.first ≡ before.knows.first
   pub share_is : after.knows.share ≡ before.knows.share
 
--- the connection opened, asked so often at these places, and left
-pub record HasRound (entries : List Entry) (count conn : ℕ) (told : List ℕ) : Type 0 where
+-- the entries of a connection that opened, asked so often at these places, and left
+pub record IsRound (conn count : ℕ) (told : List ℕ) (made : List Placed) : Type 0 where
   pub opened_at : ℕ
   pub left_at : ℕ
-  pub stand : Stand entries (round_at conn opened_at told left_at)
+  pub made_is : made ≡ round_at conn opened_at told left_at
   pub count_is : length told ≡ count
 
--- the seat has all workers, and its entries are those of two connections, which both asked so often
+-- The seat has all workers, and its entries are those of two connections, which both opened, asked so often at these
+-- places, and left.
 pub record BothServed {S : Type 0} (registry : Shared S) (seat : Sitting) (count one : ℕ) (told : List ℕ) (two : ℕ) (other : List ℕ) : Type 0 where
   pub registry_is : seat.registry ≡ registry.name
   pub share_is : seat.knows.share ≡ registry.opening.ledger.workers
-  pub first : HasRound seat.knows.seen count one told
-  pub second : HasRound seat.knows.seen count two other
-  pub places_are : length seat.knows.places ≡ (count + 2) + (count + 2)
+  pub first : List Placed
+  pub second : List Placed
+  pub first_is : IsRound one count told first
+  pub second_is : IsRound two count other second
+  pub made : Made seat.knows.seen seat.knows.places (first ++ second)
+
+-- The entries are those of two connections, which both opened, asked so often at these places, and left: each stands at
+-- its place, and there is no further one.
+pub record AreTwoRounds (entries : List Entry) (count one : ℕ) (told : List ℕ) (two : ℕ) (other : List ℕ) : Type 0 where
+  pub first : List Placed
+  pub second : List Placed
+  pub first_is : IsRound one count told first
+  pub second_is : IsRound two count other second
+  pub stand : Stand entries (first ++ second)
+  pub all : AreAllPlaces (map (λ placed. placed.0) (first ++ second)) (length entries)

@@ -16,29 +16,29 @@ use Rattle.ruled_history.specs.Runs.{StartsWith, times, Has}
 abbrev pub with_entries : LedgerView → List Entry → LedgerView
 with_entries opening entries = record opening { entries = entries }
 
--- how many tickets a seat has
+-- how many tickets a seat has at a stage
 abbrev pub tickets_at : Stage → ℕ
 tickets_at Idle = 0
 tickets_at (Waits ticket) = 1
 tickets_at (Serves ticket) = 1
 
--- what a seat has of each sum: tickets
+-- how many tickets the seat has
 abbrev pub tickets : View → ℕ
 tickets view = tickets_at view.stage
 
--- worker numbers
+-- how many worker numbers the seat has
 abbrev pub share_of : View → ℕ
 share_of view = view.share
 
--- open connections
+-- how many open connections the seat has
 abbrev pub opened_of : View → ℕ
 opened_of view = view.opened
 
--- workers that are done
+-- how many workers that are done the seat has
 abbrev pub dones_of : View → ℕ
 dones_of view = view.dones
 
--- entries that are kept for it
+-- how many kept entries the seat has
 abbrev pub room_of : View → ℕ
 room_of view = view.room
 

@@ -1,11 +1,12 @@
 //! What the worked examples begin with: a registry over four units with two seats, and calls of a desk that expect a
 //! place.
 
-ghost use Rattle.std.specs.Prelude.{◌≡◌, ◌≤◌, Option, Some, None, IfSome, IsTrue, IsFalse};
+ghost use Rattle.std.specs.Prelude.{◌≡◌, ◌≤◌, ◌<◌, Option, Some, None, IfSome, IsTrue, IsFalse};
+ghost use Rattle.unit_registry.specs.Projects.{unit_count};
 ghost use Rattle.histories.specs.Answered.{stored_unit};
 ghost use Rattle.histories.specs.Histories.{is_out_of_range};
 ghost use Rattle.histories.specs.Counts.{Asks, effect_of};
-ghost use Rattle.ruled_history.specs.Examples.{four_units, blank, IsFresh, Serves, Opened, Entered, Divided};
+ghost use Rattle.ruled_history.specs.Examples.{four_units, blank, IsFresh, HasOpen, Opened, Entered, Greeted, Divided};
 
 use crate::registry::{Registry, Seat};
 use registry_core::{Book, Desk, NoShelf};
@@ -61,22 +62,30 @@ pub(crate) fn divided(alloc: Global, limit: u32) -> Option<(Registry<NoShelf>, S
     Some((registry, one, two))
 }
 
-/// Whether the next connection was opened, and has this number.
+/// Opens a connection.
 #[tactic(auto, using(crate::proofs::Worked::opened))]
+pub(crate) fn opens_any<D: Desk<Item = ()>>(desk: &mut D) -> Option<u32>
+    requires fresh { IsFresh (D.tells desk.old) }
+    ensures { IfSome result (λ conn. Opened conn (D.tells desk.old) (D.tells desk.new)) }
+{
+    match desk.open() {
+        Ok(conn) => Some(conn),
+        Err(_) => None,
+    }
+}
+
+/// Whether the next connection was opened, and has this number.
 pub(crate) fn opens<D: Desk<Item = ()>>(desk: &mut D, conn: u32) -> bool
     requires fresh { IsFresh (D.tells desk.old) }
     ensures { IsTrue result → Opened conn (D.tells desk.old) (D.tells desk.new) }
 {
-    match desk.open() {
-        Ok(opened) => opened == conn,
-        Err(_) => false,
-    }
+    opens_any(desk) == Some(conn)
 }
 
 /// Whether the act of the connection was entered at this place.
 #[tactic(auto, using(crate::proofs::Worked::entered))]
 pub(crate) fn enters<D: Desk<Item = ()>>(desk: &mut D, conn: u32, act: Act, place: u32) -> bool
-    requires serves { Serves conn (D.tells desk.old) }
+    requires has_open { HasOpen conn (D.tells desk.old) }
     requires act { effect_of act ≡ Asks }
     requires unit { IsFalse (is_out_of_range (D.tells desk.old).seen.project act) }
     requires bare { stored_unit act ≡ None }
@@ -86,4 +95,22 @@ pub(crate) fn enters<D: Desk<Item = ()>>(desk: &mut D, conn: u32, act: Act, plac
         Ok(entered) => entered == place,
         Err(_) => false,
     }
+}
+
+/// Whether the connection was opened and greeted at this place.
+#[tactic(auto, using(crate::proofs::Worked::greeted))]
+pub(crate) fn greets<D: Desk<Item = ()>>(
+    desk: &mut D,
+    conn: u32,
+    unit: Option<u32>,
+    place: u32,
+) -> bool
+    requires fresh { IsFresh (D.tells desk.old) }
+    requires unit { IfSome unit (λ unit. unit < unit_count (D.tells desk.old).seen.project) }
+    ensures { IsTrue result → Greeted conn unit place (D.tells desk.old) (D.tells desk.new) }
+{
+    if !opens(desk, conn) {
+        return false;
+    }
+    enters(desk, conn, Act::Hello { version: 1, unit }, place)
 }

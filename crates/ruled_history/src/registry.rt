@@ -4,7 +4,7 @@ ghost use Rattle.std.specs.Prelude.{◌≡◌, ◌+◌, ◌<◌, ◌≤◌, [], 
 ghost use Rattle.registry_core.specs.Books.{BookView};
 ghost use Rattle.ruled_history.specs.declared.board.Stage.TheVariants.{Idle};
 ghost use Rattle.ruled_history.specs.declared.board.View.{View};
-ghost use Rattle.ruled_history.specs.Runs.{StartsWith, AreAllPlaces};
+ghost use Rattle.ruled_history.specs.Runs.{AreAllPlaces};
 ghost use Rattle.ruled_history.specs.Seats.{StandsAfter, Sitting, first_room};
 ghost use Rattle.ruled_history.specs.Views.{first_view, rest_of, cut_off, joined, Knows, IsBare, Keeps};
 
@@ -49,8 +49,9 @@ impl Model for Seat {
 }
 
 impl<S: Shelf + Drop> Registry<S> {
-    /// A registry of a book without entries, and its first seat, whose run is that of all workers. In a metered registry
-    /// each entry needs room of its seat. The first seat has room for all entries but the Dones, where it is metered.
+    /// A registry of a book without entries, and its first seat, whose run is that of all workers. In a metered
+    /// registry an Open needs two of its seat's room, one of them for the connection's end, and a request or a pause
+    /// one. The first seat has room for all entries but the Dones, where it is metered, and else none.
     pub fn new(alloc: Global, book: Book<S>, metered: bool) -> Result<(Registry<S>, Seat), Memory>
         requires empty { book.ledger.entries ≡ [] }
         ensures opening { IfOk result (λ made. made.0.opening ≡ book) }
@@ -77,8 +78,9 @@ impl<S: Shelf + Drop> Registry<S> {
         Ok((Registry { board }, seat))
     }
 
-    /// Splits a seat that has no entry. The second seat has the last worker numbers of the run, so many as its share, and
-    /// that room; the first has the rest. Both have seen what the seat had seen, and neither has an entry or a connection.
+    /// Splits a seat that has no entry. The second seat has the last worker numbers of the run, so many as its share,
+    /// and that room; the first has the rest. Both have seen what the seat had seen, and neither has an entry or a
+    /// connection.
     pub fn split(&self, seat: Seat, share: u32, room: u32) -> (Seat, Seat)
         requires seat { seat.registry ≡ self.now.name }
         requires some { 1 ≤ share }
@@ -128,13 +130,13 @@ impl<S: Shelf + Drop> Registry<S> {
         }
     }
 
-    /// The book, once a seat has the run of all workers, and so is the only one. Its entries begin with all that the seat
-    /// had seen, and the seat's places are those of all of them. It is the book that the registry was made of, after
-    /// these entries.
+    /// The book, once a seat has the run of all workers, and so is the only one. Its entries are all that the seat had
+    /// seen, and the seat's places are those of all of them. It is the book that the registry was made of, after these
+    /// entries.
     pub fn close(self, seat: Seat) -> Book<S>
         requires seat { seat.registry ≡ self.name }
         requires share { seat.knows.share ≡ self.opening.ledger.workers }
-        ensures seen { StartsWith result.ledger.entries seat.knows.seen }
+        ensures seen { result.ledger.entries ≡ seat.knows.seen }
         ensures places { AreAllPlaces seat.knows.places (length result.ledger.entries) }
         ensures book { StandsAfter S.kept S.held self.opening result result.ledger.entries }
     {

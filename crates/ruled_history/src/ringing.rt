@@ -1,10 +1,11 @@
-//! Which calls of a desk ring the bell. No clause can say it.
+//! What tests show of a desk beside its clauses: which calls ring the bell, which items are fetched, and that a look
+//! sees what others entered.
 
 ghost use Rattle.std.specs.Prelude.{◌≡◌};
 ghost use Rattle.ruled_history.specs.Examples.{IsFresh, four_units};
 
 use crate::bell::Bell;
-use crate::examples::{divided, enters, opens};
+use crate::examples::{divided, enters, greets, opens};
 use crate::shared::SharedDesk;
 use registry_core::{Answer, Desk, Leaving};
 use std::alloc::Global;
@@ -43,4 +44,102 @@ pub(crate) fn rings<R: Wait>(rt: &R, alloc: Global) -> Option<u64> {
     SharedDesk::new(rt, &registry, two, &bell).done();
     bell.wait_past(rt, 0);
     Some(bell.count(rt))
+}
+
+/// Whether an item that is stored for unit 0 is fetched then, and none for unit 1.
+fn keeps<D: Desk<Item = ()>>(alloc: Global, desk: &mut D) -> bool
+    requires fresh { IsFresh (D.tells desk.old) }
+    requires project { (D.tells desk.old).seen.project ≡ four_units }
+    requires fits { (held : D.Held) → D.fits held 0 tt }
+{
+    let stored = Act::Compiled {
+        unit: Some(0),
+        stored: true,
+    };
+    if !greets(desk, 0, Some(0), 1) {
+        return false;
+    }
+    if !enters(desk, 0, Act::Export { unit: Some(0) }, 2) {
+        return false;
+    }
+    if desk.ask(0, stored, Some(())) != Ok(3) {
+        return false;
+    }
+    let kept = desk.fetch(alloc, 0);
+    let other = desk.fetch(alloc, 1);
+    kept == Ok(Some(())) && other == Ok(None)
+}
+
+/// Whether an item is fetched for unit 0.
+fn finds<D: Desk<Item = ()>>(alloc: Global, desk: &mut D) -> bool
+    requires project { (D.tells desk.old).seen.project ≡ four_units }
+{
+    desk.fetch(alloc, 0) == Ok(Some(()))
+}
+
+/// Whether the first seat keeps an item and fetches it, and then the second fetches it too.
+pub(crate) fn fetches<R: Wait>(rt: &R, alloc: Global) -> bool {
+    let Some((registry, one, two)) = divided(alloc, 40) else {
+        return false;
+    };
+    let bell = Bell::new();
+    let mut first = SharedDesk::new(rt, &registry, one, &bell);
+    let mut second = SharedDesk::new(rt, &registry, two, &bell);
+    if !keeps(alloc, &mut first) {
+        return false;
+    }
+    finds(alloc, &mut second)
+}
+
+/// Whether connection 0, a guest, imported unit 0 at place 2, and waits for the reply.
+fn awaits<D: Desk<Item = ()>>(desk: &mut D) -> bool
+    requires fresh { IsFresh (D.tells desk.old) }
+    requires project { (D.tells desk.old).seen.project ≡ four_units }
+{
+    let import = Act::Import {
+        unit: Some(0),
+        name_only: false,
+    };
+    if !greets(desk, 0, None, 1) {
+        return false;
+    }
+    if !enters(desk, 0, import, 2) {
+        return false;
+    }
+    desk.look(2) == None
+}
+
+/// Whether connection 1, opened at place 3, exported and reported unit 0.
+fn compiles<D: Desk<Item = ()>>(desk: &mut D) -> bool
+    requires fresh { IsFresh (D.tells desk.old) }
+    requires project { (D.tells desk.old).seen.project ≡ four_units }
+{
+    let compiled = Act::Compiled {
+        unit: Some(0),
+        stored: false,
+    };
+    if !greets(desk, 1, Some(0), 4) {
+        return false;
+    }
+    if !enters(desk, 1, Act::Export { unit: Some(0) }, 5) {
+        return false;
+    }
+    enters(desk, 1, compiled, 6)
+}
+
+/// Whether an import at the second seat, which waited, has its reply once the unit is reported at the first.
+pub(crate) fn hears<R: Wait>(rt: &R, alloc: Global) -> bool {
+    let Some((registry, one, two)) = divided(alloc, 40) else {
+        return false;
+    };
+    let bell = Bell::new();
+    let mut first = SharedDesk::new(rt, &registry, one, &bell);
+    let mut second = SharedDesk::new(rt, &registry, two, &bell);
+    if !awaits(&mut second) {
+        return false;
+    }
+    if !compiles(&mut first) {
+        return false;
+    }
+    second.look(2) == Some(Answer::Path(0))
 }

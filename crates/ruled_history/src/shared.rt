@@ -14,14 +14,14 @@ use crate::board::{Board, Place};
 use crate::registry::{Registry, Seat, learn};
 use crate::turn::{pass_turn, record_and_pass, take_turn};
 use mm_outside::Memory;
-use registry_core::{Answer, Desk, Full, Leaving, Shelf};
+use registry_core::{Answer, Desk, Full, Leaving, Shelf, going_act};
 use std::alloc::Global;
 use std::marker::{Brand, Model};
 use std::sync::Wait;
 use unit_registry::Act;
 
-/// The desk at a seat of a registry. Each call of it takes a turn with the book, and may wait for that; nothing promises
-/// that the turn comes.
+/// The desk at a seat of a registry. Each call of it takes a turn with the book, and may wait for that; nothing
+/// promises that the turn comes.
 #[derive(Drop)]
 pub struct SharedDesk<'a, R: Wait, S: Shelf> {
     rt: &'a R,
@@ -172,7 +172,7 @@ where
         } = self;
         let mut book = take_turn::<Brand, S, R>(*rt, *board, place);
         book.leave(conn, how);
-        record_and_pass::<Brand, S>(*board, place, book, conn, leaving(how));
+        record_and_pass::<Brand, S>(*board, place, book, conn, going_act(how));
         bell.ring(*rt);
     }
 
@@ -200,15 +200,5 @@ where
         let kept = book.fetch(alloc, unit);
         pass_turn::<Brand, S>(*board, place, book);
         kept
-    }
-}
-
-/// The act by which a connection goes.
-fn leaving(how: Leaving) -> Act
-    ensures { result ≡ Rattle.registry_core.specs.Ledgers.leaving how }
-{
-    match how {
-        Leaving::Left => Act::Left,
-        Leaving::Lost => Act::Lost,
     }
 }

@@ -1,7 +1,7 @@
 //! The worked examples, with memory enough.
 
-use crate::ringing::rings;
-use crate::two_seats::{fetches, two_seats};
+use crate::ringing::{fetches, hears, rings};
+use crate::two_seats::two_seats;
 use crate::two_threads::{Told, two_threads};
 use registry_core::{Answer, Entry};
 use std::test::Fail;
@@ -98,4 +98,9 @@ fn kept_items_are_fetched(rt: HostRuntime) {
 #[test]
 fn each_entry_rings_the_bell(rt: HostRuntime) {
     assert!(rt; rings(&rt, rt.alloc()) == Some(4));
+}
+
+#[test]
+fn a_look_sees_what_others_entered(rt: HostRuntime) {
+    assert!(rt; hears(&rt, rt.alloc()));
 }

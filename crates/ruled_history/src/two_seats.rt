@@ -1,12 +1,11 @@
 //! A worked example: at one seat a unit is reported, and then it is imported at the other.
 
 ghost use Rattle.std.specs.Prelude.{◌≡◌, ℕ, ◌+◌, ◌<◌, ◌≤◌, Option, Some, None, IfSome, IsTrue, IsFalse};
-ghost use Rattle.unit_registry.specs.Projects.{unit_count};
 ghost use Rattle.histories.specs.declared.answer.Answer.TheVariants.{Path, Done as Accepted};
-ghost use Rattle.ruled_history.specs.Examples.{four_units, placed_from, reporting, importing, both_seats, IsFresh, IsFreshSeat, Serves, Greeted, HandsOver, Told, ToldAt, Divided, Finished};
+ghost use Rattle.ruled_history.specs.Examples.{four_units, placed_from, reporting, importing, both_seats, IsFresh, IsFreshSeat, HasOpen, HandsOver, Told, ToldAt, Divided, Finished};
 
 use crate::bell::Bell;
-use crate::examples::{divided, enters, opens};
+use crate::examples::{divided, enters, greets};
 use crate::registry::{Registry, Seat};
 use crate::shared::SharedDesk;
 use registry_core::{Answer, Book, Desk, NoShelf};
@@ -14,23 +13,10 @@ use std::alloc::Global;
 use std::sync::Wait;
 use unit_registry::Act;
 
-/// Whether the connection was opened and greeted at this place.
-#[tactic(auto, using(crate::proofs::Worked::greeted))]
-fn greets<D: Desk<Item = ()>>(desk: &mut D, conn: u32, unit: Option<u32>, place: u32) -> bool
-    requires fresh { IsFresh (D.tells desk.old) }
-    requires unit { IfSome unit (λ unit. unit < unit_count (D.tells desk.old).seen.project) }
-    ensures { IsTrue result → Greeted conn unit place (D.tells desk.old) (D.tells desk.new) }
-{
-    if !opens(desk, conn) {
-        return false;
-    }
-    enters(desk, conn, Act::Hello { version: 1, unit }, place)
-}
-
 /// Whether unit 0 was exported and reported at the next two places.
 #[tactic(auto, using(crate::proofs::Worked::hands_over))]
 fn hands_over<D: Desk<Item = ()>>(desk: &mut D) -> bool
-    requires serves { Serves 0 (D.tells desk.old) }
+    requires has_open { HasOpen 0 (D.tells desk.old) }
     requires project { (D.tells desk.old).seen.project ≡ four_units }
     ensures { IsTrue result → HandsOver (D.tells desk.old) (D.tells desk.new) }
 {
@@ -140,11 +126,11 @@ pub(crate) struct TwoSeats {
     pub(crate) imported: Option<Answer>,
 }
 
-/// The example: a registry of two workers with a limit of 40 entries, which isn't metered. At the first seat connection 0
-/// opens at place 0, is greeted at 1, and exports and reports unit 0 at 2 and 3; the report is accepted. At the second
-/// seat connection 1 opens at 4, is greeted as a guest at 5, and imports unit 0 at 6; the reply is the unit's path. Once
-/// the seats are joined and the registry is closed, the book has these seven entries. `None` comes where memory ran out,
-/// or a call told another number.
+/// The example: a registry of two workers with a limit of 40 entries, which isn't metered. At the first seat connection
+/// 0 opens at place 0, is greeted at 1, and exports and reports unit 0 at 2 and 3; the report is accepted. At the
+/// second seat connection 1 opens at 4, is greeted as a guest at 5, and imports unit 0 at 6; the reply is the unit's
+/// path. Once the seats are joined and the registry is closed, the book has these seven entries. `None` comes where
+/// memory ran out, or a call told another number.
 pub(crate) fn two_seats<R: Wait>(rt: &R, alloc: Global) -> Option<TwoSeats>
     ensures entries { IfSome result (λ run. run.book.ledger.entries ≡ both_seats) }
     ensures reported { IfSome result (λ run. run.reported ≡ Some Accepted) }
@@ -158,38 +144,4 @@ pub(crate) fn two_seats<R: Wait>(rt: &R, alloc: Global) -> Option<TwoSeats>
         reported,
         imported,
     })
-}
-
-/// Whether an item that is stored for unit 0 is fetched then, and none for unit 1.
-fn keeps<D: Desk<Item = ()>>(alloc: Global, desk: &mut D) -> bool
-    requires fresh { IsFresh (D.tells desk.old) }
-    requires project { (D.tells desk.old).seen.project ≡ four_units }
-    requires fits { (held : D.Held) → D.fits held 0 tt }
-{
-    let stored = Act::Compiled {
-        unit: Some(0),
-        stored: true,
-    };
-    if !greets(desk, 0, Some(0), 1) {
-        return false;
-    }
-    if !enters(desk, 0, Act::Export { unit: Some(0) }, 2) {
-        return false;
-    }
-    if desk.ask(0, stored, Some(())) != Ok(3) {
-        return false;
-    }
-    let kept = desk.fetch(alloc, 0);
-    let other = desk.fetch(alloc, 1);
-    kept == Ok(Some(())) && other == Ok(None)
-}
-
-/// Whether the first seat keeps an item and fetches it.
-pub(crate) fn fetches<R: Wait>(rt: &R, alloc: Global) -> bool {
-    let Some((registry, one, _two)) = divided(alloc, 40) else {
-        return false;
-    };
-    let bell = Bell::new();
-    let mut desk = SharedDesk::new(rt, &registry, one, &bell);
-    keeps(alloc, &mut desk)
 }

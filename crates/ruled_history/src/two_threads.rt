@@ -3,10 +3,10 @@
 ghost use Rattle.std.specs.Prelude.{◌≡◌, ℕ, ◌+◌, ◌<◌, ◌≤◌, ◌++◌, ◌∷◌, [], length, Option, Some, None, IfSome, IsTrue, IsFalse};
 ghost use Rattle.std.specs.Thread.{IsSync};
 ghost use Rattle.unit_registry.specs.declared.act.Act.TheVariants.{Repo};
-ghost use Rattle.ruled_history.specs.Examples.{IsFresh, IsFreshSeat, Serves, Opened, Entered, Asked, Rounds, RoundsAt, Divided, BothServed, HasRound};
+ghost use Rattle.ruled_history.specs.Examples.{IsFresh, IsFreshSeat, HasOpen, Entered, Asked, Rounds, RoundsAt, Divided, BothServed, AreTwoRounds};
 
 use crate::bell::Bell;
-use crate::examples::divided;
+use crate::examples::{divided, opens_any};
 use crate::registry::{Registry, Seat};
 use crate::shared::SharedDesk;
 use registry_core::{Book, Desk, Leaving, NoShelf};
@@ -22,21 +22,9 @@ pub(crate) struct Told {
     pub(crate) places: Vec<u32>,
 }
 
-/// Opens a connection.
-#[tactic(auto, using(crate::proofs::Worked::opened))]
-fn opens_any<D: Desk<Item = ()>>(desk: &mut D) -> Option<u32>
-    requires fresh { IsFresh (D.tells desk.old) }
-    ensures { IfSome result (λ conn. Opened conn (D.tells desk.old) (D.tells desk.new)) }
-{
-    match desk.open() {
-        Ok(conn) => Some(conn),
-        Err(_) => None,
-    }
-}
-
 /// Whether the connection asked once more where interfaces are kept. The place that was told is put at the end.
 fn asks_once<D: Desk<Item = ()>>(desk: &mut D, conn: u32, places: &mut Vec<u32>) -> bool
-    requires serves { Serves conn (D.tells desk.old) }
+    requires has_open { HasOpen conn (D.tells desk.old) }
     ensures { IsTrue result → (place : ℕ) × (places.new.items ≡ places.old.items ++ place ∷ []) × Entered conn Repo place (D.tells desk.old) (D.tells desk.new) }
 {
     match desk.ask(conn, Act::Repo, None) {
@@ -52,7 +40,7 @@ fn asks_often<D: Desk<Item = ()>>(
     count: u32,
     places: &mut Vec<u32>,
 ) -> bool
-    requires serves { Serves conn (D.tells desk.old) }
+    requires has_open { HasOpen conn (D.tells desk.old) }
     requires empty { places.old.items ≡ [] }
     ensures { IsTrue result → Asked conn count places.new.items (D.tells desk.old) (D.tells desk.new) }
 {
@@ -78,7 +66,7 @@ fn serve<D: Desk<Item = ()>>(alloc: Global, desk: &mut D, count: u32) -> Option<
     Some(Told { conn, places })
 }
 
-/// Serves at a seat.
+/// HasOpen at a seat.
 fn serve_seat<R: Wait>(
     rt: &R,
     alloc: Global,
@@ -97,7 +85,7 @@ fn serve_seat<R: Wait>(
     Some((desk.into_seat(), told))
 }
 
-/// Serves at both seats at once.
+/// HasOpen at both seats at once.
 fn run_both<R: Threads + Wait + Sync>(
     rt: &R,
     alloc: Global,
@@ -132,7 +120,7 @@ fn run_both<R: Threads + Wait + Sync>(
     )
 }
 
-/// Serves at both seats at once, and joins the seats.
+/// HasOpen at both seats at once, and joins the seats.
 fn serve_both<R: Threads + Wait + Sync>(
     rt: &R,
     alloc: Global,
@@ -166,9 +154,7 @@ pub(crate) fn two_threads<R: Threads + Wait + Sync>(
     alloc: Global,
     count: u32,
 ) -> Option<TwoThreads>
-    ensures entries { IfSome result (λ run. length run.book.ledger.entries ≡ (count + 2) + (count + 2)) }
-    ensures one { IfSome result (λ run. HasRound run.book.ledger.entries count run.one.conn run.one.places.items) }
-    ensures two { IfSome result (λ run. HasRound run.book.ledger.entries count run.two.conn run.two.places.items) }
+    ensures { IfSome result (λ run. AreTwoRounds run.book.ledger.entries count run.one.conn run.one.places.items run.two.conn run.two.places.items) }
 {
     let (registry, one, two) = divided(alloc, 300)?;
     let (seat, one, two) = serve_both(rt, alloc, &registry, one, two, count)?;

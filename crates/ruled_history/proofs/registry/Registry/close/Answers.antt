@@ -3,7 +3,7 @@ use Rattle.histories.specs.declared.entry.Entry.{Entry}
 use Rattle.registry_core.specs.Books.{BookView}
 use Rattle.ruled_history.specs.declared.board.Stage.TheVariants.{Idle}
 use Rattle.ruled_history.specs.declared.board.View.{View}
-use Rattle.ruled_history.specs.Runs.{StartsWith, AreAllPlaces}
+use Rattle.ruled_history.specs.Runs.{AreAllPlaces}
 use Rattle.ruled_history.specs.Seats.{Shared, StandsAfter}
 use Rattle.ruled_history.proofs.Turns.{ended}
 use Rattle.ruled_history.proofs.registry.Registry.close.Goals as goal
@@ -29,7 +29,7 @@ returns g c =
     let entries : did.entries ≡ c.in-Some.book.ledger.entries = sym (ap (λ l. l.entries) did.stands.is_ledger) ∙ ap (λ (b : BookView g.row.S.Denot). b.ledger.entries) same in
     let start : key ≡ c.args.self.opening = ap (λ (r : Shared g.row.S.Denot). r.opening) c.self.view_is in
     record {
-      seen = subst (λ (x : List Entry × View). StartsWith x.0 x.1.seen) (λ i. (entries i, known i)) did.seen;
+      seen = sym entries ∙ did.seen ∙ ap (λ (x : View). x.seen) known;
       places = subst (λ (x : List Entry × View). AreAllPlaces x.1.places (length x.0)) (λ i. (entries i, known i)) did.places;
       book = subst (λ (x : BookView g.row.S.Denot × BookView g.row.S.Denot × List Entry). StandsAfter g.S.Shelf.kept g.S.Shelf.held x.0 x.1 x.2) (λ i. (start i, same i, entries i)) did.stands;
     }

@@ -4,6 +4,7 @@ use Rattle.histories.specs.declared.entry.Entry.{Entry}
 use Rattle.histories.specs.Counts.{Effect, effect_of}
 use Rattle.registry_core.specs.Ledgers.{entry, leaving, is_open_in}
 use Rattle.registry_core.specs.Desks.{Adds}
+use Rattle.registry_core.proofs.Keeping.{leaving_stores}
 use Rattle.ruled_history.specs.declared.board.Stage.TheVariants.{Idle}
 use Rattle.ruled_history.specs.declared.board.View.{View}
 use Rattle.ruled_history.specs.Runs.{Has}
@@ -11,7 +12,7 @@ use Rattle.ruled_history.specs.Seats.{Seated, StandsAfter, told_seated}
 use Rattle.ruled_history.specs.Views.{with_entries, at_stage, adds, MayAddBy}
 use Rattle.ruled_history.proofs.Counts.{has_contained}
 use Rattle.ruled_history.proofs.Histories.{goes}
-use Rattle.ruled_history.proofs.Telling.{knowing, told_sound, told_adds, stands_entered, one_open, leaving_goes, leaving_stores}
+use Rattle.ruled_history.proofs.Telling.{knowing, told_sound, told_adds, stands_entered, one_open, leaving_goes}
 use Rattle.ruled_history.proofs.shared.SharedDeskDesk.leave.Goals as goal
 
 pub record_and_pass-requires-clause-turn : goal.record_and_pass-requires-clause-turn
@@ -26,14 +27,14 @@ record_and_pass-requires-clause-may g c =
     let own : Contains c.self.inside.place.me.0.connections c.args.conn = search rules in
     let served : View = c.take_turn-book.new.place.me.0 in
     let has : Has c.args.conn served.connections = subst (λ (v : View). Has c.args.conn v.connections) (sym c.take_turn-book.ensures.turn.0.1) (has_contained c.args.conn c.self.inside.place.me.0.connections own) in
-    subst (λ (x : Effect). MayAddBy c.self.inside.board.now.table.shared.key.metered served c.args.conn x) (sym (ap effect_of c.leaving.ensures ∙ leaving_goes c.args.how)) has
+    subst (λ (x : Effect). MayAddBy c.self.inside.board.now.table.shared.key.metered served c.args.conn x) (sym (ap effect_of c.going_act.ensures ∙ leaving_goes c.args.how)) has
 
 pub record_and_pass-requires-clause-book : goal.record_and_pass-requires-clause-book
 record_and_pass-requires-clause-book g c =
     let opening = c.self.inside.board.now.table.shared.key.opening.value in
     let served : View = c.take_turn-book.new.place.me.0 in
     let newest : Entry = entry c.args.conn (leaving c.args.how) in
-    subst (λ (a : Act). StandsAfter g.S.Shelf.kept g.S.Shelf.held opening c.leave.new.self (served.seen ++ entry c.args.conn a ∷ [])) (sym c.leaving.ensures)
+    subst (λ (a : Act). StandsAfter g.S.Shelf.kept g.S.Shelf.held opening c.leave.new.self (served.seen ++ entry c.args.conn a ∷ [])) (sym c.going_act.ensures)
     (stands_entered g.S.Shelf.kept g.S.Shelf.held opening c.take_turn-book.result c.leave.new.self served.seen newest c.take_turn-book.ensures.told.stands c.leave.ensures.left c.leave.ensures.shelf (leaving_stores c.args.how))
 
 pub returns-clause-left : goal.returns-clause-left
@@ -52,7 +53,7 @@ returns-clause-left g c =
     let one : 1 ≤ served.opened = one_open key.opening.value.ledger served c.args.conn told.knows has (told.still c.args.conn has ∙ there) in
     let some_open : goes (effect_of newest.act) ≤ served.opened = subst (λ (x : Effect). goes x ≤ served.opened) (sym (leaving_goes c.args.how)) one in
     let name : c.record_and_pass.new.place.table_id ≡ c.self.inside.place.table_id = c.record_and_pass.ensures.seat.0 ∙ c.take_turn-book.ensures.seat.0 in
-    let knows : c.record_and_pass.new.place.me.0 ≡ at_stage Idle (adds newest served) = ap (λ m. m.0) c.record_and_pass.ensures.idle ∙ ap (λ (a : Act). at_stage Idle (adds (entry c.args.conn a) served)) c.leaving.ensures in
+    let knows : c.record_and_pass.new.place.me.0 ≡ at_stage Idle (adds newest served) = ap (λ m. m.0) c.record_and_pass.ensures.idle ∙ ap (λ (a : Act). at_stage Idle (adds (entry c.args.conn a) served)) c.going_act.ensures in
     let now : after ≡ knowing before (at_stage Idle (adds newest served)) = λ i. record { opening = key.opening.value; metered = key.metered; seat = record { registry = name i; knows = knows i } } in (
       length served.seen,
       subst (λ (d : Seated g.row.S.Denot). Adds (told_seated g.S.Shelf.kept g.S.Shelf.held d) newest (length served.seen) (told_seated g.S.Shelf.kept g.S.Shelf.held after)) c.self.view_is

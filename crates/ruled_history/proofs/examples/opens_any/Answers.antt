@@ -1,5 +1,5 @@
 use Rattle.ruled_history.proofs.Worked.{opened}
-use Rattle.ruled_history.proofs.two_threads.opens_any.Goals as goal
+use Rattle.ruled_history.proofs.examples.opens_any.Goals as goal
 
 pub returns-in-Ok : goal.returns-in-Ok
 returns-in-Ok g c =
