@@ -94,7 +94,9 @@ module _ (project : ProjectView) (workers limit : ℕ) (history : List Entry) (c
     pub ends : Ends how link
     pub limits : PassesLimits link.read → (status_of how ≡ 8) ⊎ (status_of how ≡ 5) ⊎ (status_of how ≡ 9)
 
--- a fault of the link is an end only where its count rose
+-- a connection ends by a fault of the link exactly where one came: the count of such faults rose, and else it is as it was
 pub record HasCauses (reads_before reads_now writes_before writes_now : ℕ) (how : ConnEnd) : Type 0 where
   pub read : how ≡ ReadFault → Rose reads_before reads_now
   pub write : how ≡ WriteFault → Rose writes_before writes_now
+  pub read_kept : how ≢ ReadFault → reads_now ≡ reads_before
+  pub write_kept : how ≢ WriteFault → writes_now ≡ writes_before

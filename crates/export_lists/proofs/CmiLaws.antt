@@ -9,7 +9,9 @@ use Rattle.export_lists.specs.CmiTexts.{cmi_text, IsGoodCmi}
 use Rattle.export_lists.specs.CmiFaults.{IsCmiText, first_lines, BeginsAsOne, IsFaultyLine}
 use Rattle.export_lists.specs.declared.draft.Draft.{Draft}
 use Rattle.export_lists.specs.declared.draft.Draft.TheVariants.{Start, Headed, Listing, Over}
-use Rattle.export_lists.specs.Drafts.{Row, rows_of, text_of, IsRow, led}
+use Rattle.export_lists.specs.Drafts.{IsRow}
+use Rattle.export_lists.proofs.Readings.{rows_of, text_of, led}
+use Rattle.export_lists.specs.Words.{Row}
 use Rattle.export_lists.proofs.RowTexts.{parted, not_empty, clean_row, line_then, same_row}
 use Rattle.export_lists.proofs.GoodLists.{may_be_read}
 use Rattle.export_lists.proofs.Leads.{complete}

@@ -1,8 +1,9 @@
 -- The lines of an interface, and reading them.
 use Rattle.std.proofs.Common.{◌≡◌, ◌≢◌, ℕ, suc, ◌+◌, ◌≤◌, Bool, true, false, List, [], ◌∷◌, ◌++◌, length, map, Option, Some, None, sym, ap, ◌∙◌, refl, subst, arith, append_assoc, length-append, add-one}
-use Rattle.std.specs.Prelude.{codes, is_some, Result, Ok, Err, IfOk, IfErr}
+use Rattle.std.specs.Prelude.{codes, is_some, option_and_then, Result, Ok, Err, IfOk, IfErr}
 use Rattle.std.specs.List.{AllByRecursion}
 use Rattle.std.proofs.lemmas.Grind.{flat_map-append}
+use Rattle.std.proofs.lemmas.Bool.{and_parts}
 use Rattle.std.proofs.lemmas.List.{append-nil}
 use Rattle.cody_words.specs.Octets.{newline}
 use Rattle.cody_words.specs.Lines.{longest_line}
@@ -17,18 +18,18 @@ use Rattle.module_units.specs.declared.parts.DeclKind.{DeclKind}
 use Rattle.module_units.specs.declared.parts.DeclKind.TheVariants.{Struct, Class, Alias, Variable, Function}
 use Rattle.export_lists.specs.Entries.{Listed}
 use Rattle.export_lists.specs.Lists.{Cmi}
-use Rattle.export_lists.specs.Words.{kind_word, line_of, entry_line, entry_lines}
-use Rattle.export_lists.specs.CmiTexts.{role_word, cmi_text, owns, is_owner, is_good_entry}
+use Rattle.export_lists.specs.Words.{kind_word, line_of, entry_line, entry_lines, Row, entry_row}
+use Rattle.export_lists.specs.CmiTexts.{role_word, cmi_text, owns, is_owner, is_good_entry, head_row, unit_row, end_row}
 use Rattle.export_lists.specs.CmiFaults.{IsCmiText, first_lines, BeginsAsOne, IsFaultyLine, TellsCmiFault}
 use Rattle.export_lists.specs.declared.cmi_error.CmiError.{CmiError}
 use Rattle.export_lists.specs.declared.cmi_error.CmiError.TheVariants as errors
 use Rattle.export_lists.specs.declared.draft.Draft.{Draft}
 use Rattle.export_lists.specs.declared.draft.Draft.TheVariants.{Start, Headed, Listing, Over}
-use Rattle.export_lists.specs.Drafts.{Row, may_follow, may_all_follow, MayBeRead, head_row, unit_row, entry_row, end_row, rows_of, text_of, IsRow, IsLine, cmi_of, next, goes_on, led, EndsSo, HasRead}
-use Rattle.export_lists.specs.Stands.{Stands}
+use Rattle.export_lists.specs.Drafts.{may_follow, IsRow, IsLine, cmi_of, next, EndsSo}
+use Rattle.export_lists.proofs.Readings.{may_all_follow, MayBeRead, rows_of, text_of, led, HasRead, Stands}
 use Rattle.export_lists.proofs.GoodLists.{may_be_read, is_good}
 use Rattle.export_lists.proofs.RowTexts.{Clean, first_none, first_line, not_clean, not_empty, line_then, row_first, rows_first, behind}
-use Rattle.export_lists.proofs.Leads.{both, complete, led_more}
+use Rattle.export_lists.proofs.Leads.{complete, led_more}
 use Rattle.export_lists.proofs.Standing.{stands}
 
 -- ---- the text of an interface is that of its lines
@@ -84,15 +85,15 @@ role_short false = omega arith
 
 entry_fits : (first : List ℕ) (before : List Listed) (e : Listed) → length first ≤ 6 → may_follow before e ≡ true → IsRow (entry_row first e)
 entry_fits first before e short may =
-    let good = both (is_good_entry e.name e.owner) _ may in
-    let parts = both (is_identifier e.name) (is_owner e.owner) good.0 in
+    let good = and_parts (is_good_entry e.name e.owner) _ may in
+    let parts = and_parts (is_identifier e.name) (is_owner e.owner) good.0 in
     let name : length e.name ≤ 255 = (forms.identifier_is e.name parts.0).short in
     fits (entry_row first e) (λ no. cc) (omega (arith, short, kind_short e.kind, name, owner_short e.owner parts.1))
 
 entries_fit : (first : List ℕ) (before es : List Listed) → length first ≤ 6 → may_all_follow before es ≡ true → AllByRecursion IsRow (map (entry_row first) es)
 entries_fit first before [] short may = tt
 entries_fit first before (e ∷ es) short may =
-    let parts = both (may_follow before e) (may_all_follow (before ++ e ∷ []) es) may in
+    let parts = and_parts (may_follow before e) (may_all_follow (before ++ e ∷ []) es) may in
     (entry_fits first before e short parts.0, entries_fit first (before ++ e ∷ []) es short parts.1)
 
 pub all_more : {X : Type 0} (P : X → Type 0) (xs ys : List X) → AllByRecursion P xs → AllByRecursion P ys → AllByRecursion P (xs ++ ys)
@@ -169,7 +170,7 @@ line_faulty text draft number rest line back h is clean refuses = faulty text dr
     none (words ∷ more) cmi each e leads =
         let same : line_of words ++ [] ≡ line ++ newline ∷ [] = sym (row_first words (text_of more) 0) ∙ e ∙ first_is in
         let is_line : IsLine line words = record { row = each.0; same = sym same ∙ append-nil (line_of words) } in
-        let no : None ≡ Some (Over cmi) = ap (λ d. goes_on d (λ after. led after more)) (sym (refuses words is_line)) ∙ leads in
+        let no : None ≡ Some (Over cmi) = ap (λ d. option_and_then (λ after. led after more) d) (sym (refuses words is_line)) ∙ leads in
         absurd (cc)
 
 -- a text that ends too early, or that goes on behind its end, is at fault
@@ -202,7 +203,7 @@ pub read_more : (text : List ℕ) (draft after : Draft) (number : ℕ) (rest lin
 read_more text draft after number rest line back words h is good e = record {
   rows = h.rows ++ words ∷ [];
   each = all_more IsRow h.rows (words ∷ []) h.each (good.row, tt);
-  leads = led_more Start draft h.rows (words ∷ []) h.leads ∙ ap (λ d. goes_on d (λ a. Some a)) e;
+  leads = led_more Start draft h.rows (words ∷ []) h.leads ∙ ap (λ d. option_and_then (λ a. Some a) d) e;
   whole =
       h.whole ∙ ap (λ r. text_of h.rows ++ r) (is ∙ sym (append_assoc line (newline ∷ []) back) ∙ ap (λ l. l ++ back) good.same)
       ∙ sym (append_assoc (text_of h.rows) (line_of words) back)

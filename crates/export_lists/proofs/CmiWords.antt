@@ -13,11 +13,11 @@ use Rattle.cody_words.specs.Canonical.{canonical_text}
 use Rattle.cody_words.proofs.Canon.{canonical_line_is, line_says_its_words}
 use Rattle.cody_words.proofs.Fits.{words_fit}
 use Rattle.cody_words.proofs.Verdicts.{one_meaning}
-use Rattle.export_lists.specs.Words.{line_of}
+use Rattle.export_lists.specs.Words.{line_of, Row}
 use Rattle.export_lists.specs.declared.distinct.LineError.{LineError}
 use Rattle.export_lists.specs.declared.distinct.LineError.TheVariants as faults
 use Rattle.export_lists.specs.declared.draft.Draft.{Draft}
-use Rattle.export_lists.specs.Drafts.{Row, IsLine, HasWords, ReadsWords, next, Takes, TakesLine}
+use Rattle.export_lists.specs.Drafts.{IsLine, HasWords, ReadsWords, next, Takes, TakesLine}
 use Rattle.export_lists.proofs.RowTexts.{not_empty, same_line}
 
 -- what stands before the same last octet

@@ -1,17 +1,16 @@
 -- What units have at a depth they have deeper, and a table that no step adds to has what any depth has.
-use Rattle.std.proofs.Common.{◌≡◌, ℕ, zero, suc, ◌+◌, List, [], ◌∷◌, inl, inr, Option, Some, None, Result, Ok, Err, sym, ap, ◌∙◌, refl, zero-add, eqb, cond}
+use Rattle.std.proofs.Common.{◌≡◌, ℕ, zero, suc, ◌+◌, List, [], ◌∷◌, Option, Some, None, Result, Ok, Err, sym, ap, ◌∙◌, refl, zero-add, option_and_then}
 use Rattle.std.specs.Prelude.{slice_get}
-use Rattle.std.proofs.lemmas.Bool.{cases_eq, eq-eqb, ne_eqb}
 use Rattle.std.proofs.Math.Nat.{suc-add}
 use Rattle.module_units.specs.declared.unit.Unit.{Unit as UnitOf}
 use Rattle.module_units.specs.declared.parts.Import.{Import as ImportOf}
 use Rattle.module_units.specs.Reading.{SourceReading, Good, Bad}
 use Rattle.unit_registry.specs.Projects.{ProjectView, name_of, find_unit}
 use Rattle.export_lists.specs.Lists.{Cmi}
-use Rattle.export_lists.specs.Outcomes.{Origin, FromSource, FromCmi, cmi_in, Interfaces, interface_at, imported_cmi, put_first, gathered, outcome_over, outcome_of_source, step, at_start, cmi_of}
+use Rattle.export_lists.specs.Outcomes.{Origin, FromSource, FromCmi, cmi_in, Interfaces, imported_cmi, put_first, gathered, outcome_over, outcome_of_source, step, at_start}
 use Rattle.export_lists.specs.Slots.{Within, at_depth}
 
-interface_within : (has more : Interfaces) → Within has more → (unit : Option ℕ) (cmi : Cmi) → interface_at unit has ≡ Some cmi → interface_at unit more ≡ Some cmi
+interface_within : (has more : Interfaces) → Within has more → (unit : Option ℕ) (cmi : Cmi) → option_and_then has unit ≡ Some cmi → option_and_then more unit ≡ Some cmi
 interface_within has more w None cmi e = e
 interface_within has more w (Some unit) cmi e = w.each unit cmi e
 
@@ -43,13 +42,13 @@ source_within project has more w number (Good unit) cmi e =
 source_within project has more w number (Bad line reason) cmi e = e
 
 -- a step has what it had over fewer interfaces
-pub step_within : (project : ProjectView) (has more : Interfaces) → Within has more → (number : ℕ) (origin : Option Origin) (cmi : Cmi) → cmi_of (step project has number origin) ≡ Some cmi → cmi_of (step project more number origin) ≡ Some cmi
+pub step_within : (project : ProjectView) (has more : Interfaces) → Within has more → (number : ℕ) (origin : Option Origin) (cmi : Cmi) → option_and_then cmi_in (step project has number origin) ≡ Some cmi → option_and_then cmi_in (step project more number origin) ≡ Some cmi
 step_within project has more w number (Some (FromSource reading)) cmi e = source_within project has more w number reading cmi e
 step_within project has more w number (Some (FromCmi built)) cmi e = e
 step_within project has more w number None cmi e = e
 
 -- a step has what there was at the start
-pub start_within : (project : ProjectView) (has : Interfaces) (number : ℕ) (origin : Option Origin) (cmi : Cmi) → cmi_of (at_start origin) ≡ Some cmi → cmi_of (step project has number origin) ≡ Some cmi
+pub start_within : (project : ProjectView) (has : Interfaces) (number : ℕ) (origin : Option Origin) (cmi : Cmi) → option_and_then cmi_in (at_start origin) ≡ Some cmi → option_and_then cmi_in (step project has number origin) ≡ Some cmi
 start_within project has number (Some (FromSource reading)) cmi e = absurd (cc)
 start_within project has number (Some (FromCmi built)) cmi e = e
 start_within project has number None cmi e = e
@@ -65,7 +64,7 @@ deeper_by project origins zero depth = record { each = λ unit cmi e. rw zero-ad
 deeper_by project origins (suc more) depth = record { each = λ unit cmi e. rw suc-add ((deeper project origins (more + depth)).each unit cmi ((deeper_by project origins more depth).each unit cmi e)) }
 
 -- where no step finishes another unit, the table has what any depth has
-pub table_whole : (project : ProjectView) (origins : List Origin) (has : Interfaces) → ((unit : ℕ) (cmi : Cmi) → cmi_of (step project has unit (slice_get origins unit)) ≡ Some cmi → has unit ≡ Some cmi)
+pub table_whole : (project : ProjectView) (origins : List Origin) (has : Interfaces) → ((unit : ℕ) (cmi : Cmi) → option_and_then cmi_in (step project has unit (slice_get origins unit)) ≡ Some cmi → has unit ≡ Some cmi)
     → (depth : ℕ) → Within (at_depth project origins depth) has
 table_whole project origins has stays zero = record { each = λ unit cmi e. stays unit cmi (start_within project has unit (slice_get origins unit) cmi e) }
 table_whole project origins has stays (suc depth) = record { each = λ unit cmi e. stays unit cmi (step_within project (at_depth project origins depth) has (table_whole project origins has stays depth) unit (slice_get origins unit) cmi e) }

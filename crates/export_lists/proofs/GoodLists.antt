@@ -2,14 +2,14 @@
 use Rattle.std.proofs.Common.{◌≡◌, suc, ◌+◌, ◌<◌, ◌≤◌, Bool, true, false, not, ◌&&◌, List, [], ◌∷◌, ◌++◌, length, if◌then◌else◌, sym, ap, ◌∙◌, refl, arith, append_assoc, length-append}
 use Rattle.std.specs.Prelude.{nat_lt}
 use Rattle.std.specs.List.{list_all, list_any}
-use Rattle.std.proofs.lemmas.Bool.{ltb-true, lt-ltb}
+use Rattle.std.proofs.lemmas.Bool.{ltb-true, lt-ltb, and_parts, not-true}
 use Rattle.std.proofs.lemmas.List.{append-nil}
 use Rattle.export_lists.specs.Entries.{Listed, is_same, with_entry, with_entries}
 use Rattle.export_lists.specs.Lists.{Cmi}
 use Rattle.export_lists.specs.Compiling.{most_names}
 use Rattle.export_lists.specs.CmiTexts.{is_good_entry, AreGood, IsGoodCmi}
-use Rattle.export_lists.specs.Drafts.{may_follow, may_all_follow, MayBeRead}
-use Rattle.export_lists.proofs.Leads.{both}
+use Rattle.export_lists.specs.Drafts.{may_follow}
+use Rattle.export_lists.proofs.Readings.{may_all_follow, MayBeRead}
 
 no_longer : (before : List Listed) (entry : Listed) (b : Bool) → length (if b then before else before ++ entry ∷ []) ≤ length before + 1
 no_longer before entry true = omega arith
@@ -23,10 +23,6 @@ with_short before (entry ∷ entries) =
     let here : length (with_entry before entry) ≤ length before + 1 = no_longer before entry (list_any (is_same entry) before) in
     omega (arith, rest, here)
 
-not_true : (b : Bool) → not b ≡ true → b ≡ false
-not_true true e = absurd (cc)
-not_true false e = refl
-
 -- What an entry that may follow others is.
 record Follows (before : List Listed) (entry : Listed) : Type 0 where
   good : is_good_entry entry.name entry.owner ≡ true
@@ -35,14 +31,14 @@ record Follows (before : List Listed) (entry : Listed) : Type 0 where
 
 follows : (before : List Listed) (entry : Listed) → may_follow before entry ≡ true → Follows before entry
 follows before entry h =
-    let outer = both (is_good_entry entry.name entry.owner) (nat_lt (length before) most_names && not (list_any (is_same entry) before)) h in
-    let inner = both (nat_lt (length before) most_names) (not (list_any (is_same entry) before)) outer.1 in
-    record { good = outer.0; room = ltb-true (length before) most_names inner.0; new = not_true (list_any (is_same entry) before) inner.1 }
+    let outer = and_parts (is_good_entry entry.name entry.owner) (nat_lt (length before) most_names && not (list_any (is_same entry) before)) h in
+    let inner = and_parts (nat_lt (length before) most_names) (not (list_any (is_same entry) before)) outer.1 in
+    record { good = outer.0; room = ltb-true (length before) most_names inner.0; new = not-true (list_any (is_same entry) before) inner.1 }
 
 may_each : (before entries : List Listed) → may_all_follow before entries ≡ true → list_all (λ entry. is_good_entry entry.name entry.owner) entries ≡ true
 may_each before [] h = refl
 may_each before (entry ∷ entries) h =
-    let parts = both (may_follow before entry) (may_all_follow (before ++ entry ∷ []) entries) h in
+    let parts = and_parts (may_follow before entry) (may_all_follow (before ++ entry ∷ []) entries) h in
     let good = (follows before entry parts.0).good in
     let rest = may_each (before ++ entry ∷ []) entries parts.1 in
     (λ k. good k && rest k)
@@ -50,7 +46,7 @@ may_each before (entry ∷ entries) h =
 may_few : (before entries : List Listed) → length before ≤ most_names → may_all_follow before entries ≡ true → length before + length entries ≤ most_names
 may_few before [] le h = omega (arith, le)
 may_few before (entry ∷ entries) le h =
-    let parts = both (may_follow before entry) (may_all_follow (before ++ entry ∷ []) entries) h in
+    let parts = and_parts (may_follow before entry) (may_all_follow (before ++ entry ∷ []) entries) h in
     let room = (follows before entry parts.0).room in
     let more : length (before ++ entry ∷ []) ≡ length before + 1 = length-append before (entry ∷ []) in
     let rest = may_few (before ++ entry ∷ []) entries (omega (arith, room, more)) parts.1 in
@@ -59,7 +55,7 @@ may_few before (entry ∷ entries) le h =
 may_differ : (before entries : List Listed) → may_all_follow before entries ≡ true → with_entries before entries ≡ before ++ entries
 may_differ before [] h = sym (append-nil before)
 may_differ before (entry ∷ entries) h =
-    let parts = both (may_follow before entry) (may_all_follow (before ++ entry ∷ []) entries) h in
+    let parts = and_parts (may_follow before entry) (may_all_follow (before ++ entry ∷ []) entries) h in
     ap (λ (b : Bool). with_entries (if b then before else before ++ entry ∷ []) entries) (follows before entry parts.0).new
     ∙ may_differ (before ++ entry ∷ []) entries parts.1
     ∙ append_assoc before (entry ∷ []) entries
@@ -68,7 +64,7 @@ all_may : (before entries : List Listed) → list_all (λ entry. is_good_entry e
     → with_entries before entries ≡ before ++ entries → may_all_follow before entries ≡ true
 all_may before [] each few e = refl
 all_may before (entry ∷ entries) each few e =
-    let parts = both (is_good_entry entry.name entry.owner) (list_all (λ other. is_good_entry other.name other.owner) entries) each in
+    let parts = and_parts (is_good_entry entry.name entry.owner) (list_all (λ other. is_good_entry other.name other.owner) entries) each in
     let more : length (before ++ entry ∷ []) ≡ length before + 1 = length-append before (entry ∷ []) in
     by_there (list_any (is_same entry) before) refl parts.0 (all_may (before ++ entry ∷ []) entries parts.1 (omega (arith, few, more)))
   where

@@ -4,6 +4,7 @@ pub mod Faults
 pub mod Names
 pub mod Depth
 pub mod SlotLists
+pub mod Rings
 pub mod Tables
 pub mod RoundParts
 pub mod Gathering
@@ -11,6 +12,7 @@ pub mod Listings
 pub mod OneSource
 pub mod Worked
 pub mod Counts
+pub mod Readings
 pub mod RowTexts
 pub mod Leads
 pub mod Standing

@@ -1,19 +1,22 @@
 -- The outcomes of a project's units, from what they are made of.
-use Rattle.std.proofs.Common.{◌≡◌, ℕ, zero, suc, ◌+◌, ◌<◌, ◌≤◌, true, false, List, [], ◌∷◌, ◌++◌, length, take, drop, inl, inr, ◌⊎◌, Option, Some, cond, sym, ap, ◌∙◌, refl, subst, arith, get_or, length-append}
-use Rattle.std.specs.Prelude.{slice_get, count_by, filter_map, zip, flat_map}
+use Rattle.std.proofs.Common.{◌≡◌, ℕ, zero, suc, ◌+◌, ◌<◌, ◌≤◌, Bool, true, false, List, [], ◌∷◌, ◌++◌, length, take, drop, inl, inr, ◌⊎◌, Option, Some, cond, sym, ap, ◌∙◌, refl, subst, arith, get_or, length-append}
+use Rattle.std.specs.Prelude.{slice_get, filter_map, zip, flat_map}
 use Rattle.std.proofs.lemmas.Option.{get_or_from_slice_get, slice_get_read, same_Some}
 use Rattle.std.proofs.lemmas.List.Sums.{sum_by_more, sum_by-take-le}
 use Rattle.std.specs.Option.{option_map_or}
-use Rattle.std.specs.Prelude.{IfOk, Result, Ok, Err}
+use Rattle.std.specs.Prelude.{IfOk, Result}
+use Rattle.std.specs.List.{All}
+use Rattle.std.specs.Int.{from_bool}
 use Rattle.mm_outside.specs.declared.errors.Memory.{Memory}
-use Rattle.std.proofs.lemmas.List.{map-append, length-map, flat_map_more, take_all, take_at}
+use Rattle.std.proofs.lemmas.Result.{IfOk-weaker}
+use Rattle.std.proofs.lemmas.List.{map-append, flat_map_more, take_at}
 use Rattle.unit_registry.specs.Projects.{ProjectView, unit_count, is_built, ident_of}
 use Rattle.unit_registry.specs.declared.unit.Declared.{Declared}
 use Rattle.export_lists.specs.Lists.{Cmi}
 use Rattle.export_lists.specs.Sources.{Source}
 use Rattle.export_lists.specs.Outcomes.{Origin, FromSource, FromCmi, Outcome, Built, outcome}
 use Rattle.export_lists.specs.Listings.{built_count, built_before, IsMadeOf, AreOrigins, AreOutcomes, IsListing}
-use Rattle.export_lists.specs.Reports.{unit_lines, report}
+use Rattle.export_lists.specs.Reports.{outcome_lines, report}
 use Rattle.export_lists.specs.Slots.{Slot, Left, Over, first_slot, outcome_in, left_count, IsFirstSlot, IsSourceSlot, AreFirstSlots, IsTable, LeadsTo}
 use Rattle.export_lists.proofs.SlotLists.{outcomes_count, outcome_at_slot, left_here}
 use Rattle.export_lists.proofs.Tables.{there_or_not, none_past, table_first}
@@ -63,8 +66,12 @@ built_more project number lt =
     ∙ ap (λ (v : Declared). built_before project number + cond v.built 1 0) (get_or_from_slice_get project.units number u.0 u.0 u.1)
     ∙ ap (λ (o : Option Declared). built_before project number + cond (option_map_or (λ (entry : Declared). entry.built) o false) 1 0) (sym u.1)
 
-pub built_next : (project : ProjectView) (number place one : ℕ) → number < unit_count project → place ≡ built_before project number → one ≡ cond (is_built project number) 1 0 → place + one ≡ built_before project (number + 1)
-built_next project number place one lt was is = (λ k. was k + is k) ∙ sym (built_more project number lt)
+as_count : (built : Bool) → from_bool built ≡ cond built 1 0
+as_count true = refl
+as_count false = refl
+
+pub built_next : (project : ProjectView) (number place one : ℕ) → number < unit_count project → place ≡ built_before project number → one ≡ from_bool (is_built project number) → place + one ≡ built_before project (number + 1)
+built_next project number place one lt was is = (λ k. was k + (is ∙ as_count (is_built project number)) k) ∙ sym (built_more project number lt)
 
 -- the interface of a built unit is there
 built_below : (next before all one : ℕ) → next ≡ before + one → one ≡ 1 → next ≤ all → before < all
@@ -117,13 +124,12 @@ built_slot project sources built number place cmi copy lt count at is item same 
         omega arith
 
 -- the slot of a unit with a source
-if_ok : {T E : Type 0} {P Q : T → Type 0} (r : Result T E) → ((t : T) → P t → Q t) → IfOk r P → IfOk r Q
-if_ok (Ok t) f p = f t p
-if_ok (Err e) f p = tt
+pub short_source : (most : ℕ) (sources : List (List ℕ)) (number : ℕ) (source text : List ℕ) → All (λ source. length source ≤ most) sources → number < length sources → source ≡ get_or sources number source → text ≡ source → length text ≤ most
+short_source most sources number source text short lt item same = subst (λ (t : List ℕ). length t ≤ most) (sym (same ∙ item)) (short number source lt)
 
 pub source_slots : (project : ProjectView) (sources : List (List ℕ)) (built : List Cmi) (number : ℕ) (source text : List ℕ) (result : Result Slot Memory) → number < unit_count project → length sources ≡ unit_count project → is_built project number ≡ false → source ≡ get_or sources number source → text ≡ source
     → IfOk result (IsSourceSlot project number text) → IfOk result (IsFirstSlot project sources built number)
-source_slots project sources built number source text result lt count is item same told = if_ok {P = IsSourceSlot project number text} {Q = IsFirstSlot project sources built number} result each told
+source_slots project sources built number source text result lt count is item same told = IfOk-weaker result (IsSourceSlot project number text) (IsFirstSlot project sources built number) each told
   where
     each : (slot : Slot) → IsSourceSlot project number text slot → IsFirstSlot project sources built number slot
     each slot s = record {
@@ -142,19 +148,19 @@ list_end project sources built first old new last outcomes len count same are le
 
 -- what the report says of one unit more
 pub report_more : (project : ProjectView) (outcomes : List Outcome) (number : ℕ) (found : Outcome) → number < unit_count project → slice_get outcomes number ≡ Some found → (text before after : List ℕ)
-    → before ≡ text ++ flat_map (λ (u : Declared × Outcome). unit_lines u.0.ident u.1) (take number (zip project.units outcomes)) → after ≡ before ++ unit_lines (ident_of project number) found
-    → after ≡ text ++ flat_map (λ (u : Declared × Outcome). unit_lines u.0.ident u.1) (take (number + 1) (zip project.units outcomes))
+    → before ≡ text ++ flat_map (λ (u : Declared × Outcome). outcome_lines u.0.ident u.1) (take number (zip project.units outcomes)) → after ≡ before ++ outcome_lines (ident_of project number) found
+    → after ≡ text ++ flat_map (λ (u : Declared × Outcome). outcome_lines u.0.ident u.1) (take (number + 1) (zip project.units outcomes))
 report_more project outcomes number found lt at text before after was now =
     let u = unit_at project number lt in
     let ident : ident_of project number ≡ u.0.ident = ap (λ (o : Option Declared). option_map_or (λ (entry : Declared). entry.ident) o []) u.1 in
     let pair : slice_get (zip project.units outcomes) number ≡ Some (u.0, found) = paired project.units outcomes number u.0 found u.1 at in
-    now ∙ (λ k. was k ++ unit_lines (ident k) found)
-    ∙ flat_map_more (λ (u : Declared × Outcome). unit_lines u.0.ident u.1) text (take number (zip project.units outcomes)) (u.0, found)
-    ∙ ap (λ us. text ++ flat_map (λ (u : Declared × Outcome). unit_lines u.0.ident u.1) us) (sym (taken (zip project.units outcomes) number (u.0, found) pair))
+    now ∙ (λ k. was k ++ outcome_lines (ident k) found)
+    ∙ flat_map_more (λ (u : Declared × Outcome). outcome_lines u.0.ident u.1) text (take number (zip project.units outcomes)) (u.0, found)
+    ∙ ap (λ us. text ++ flat_map (λ (u : Declared × Outcome). outcome_lines u.0.ident u.1) us) (sym (taken (zip project.units outcomes) number (u.0, found) pair))
 
 -- the whole report
-pub report_all : (project : ProjectView) (outcomes : List Outcome) (number : ℕ) (text : List ℕ) → unit_count project ≤ number → text ≡ flat_map (λ (u : Declared × Outcome). unit_lines u.0.ident u.1) (take number (zip project.units outcomes)) → text ≡ report project outcomes
-report_all project outcomes number text le e = e ∙ ap (λ us. flat_map (λ (u : Declared × Outcome). unit_lines u.0.ident u.1) us) (zip_all project.units outcomes number le)
+pub report_all : (project : ProjectView) (outcomes : List Outcome) (number : ℕ) (text : List ℕ) → unit_count project ≤ number → text ≡ flat_map (λ (u : Declared × Outcome). outcome_lines u.0.ident u.1) (take number (zip project.units outcomes)) → text ≡ report project outcomes
+report_all project outcomes number text le e = e ∙ ap (λ us. flat_map (λ (u : Declared × Outcome). outcome_lines u.0.ident u.1) us) (zip_all project.units outcomes number le)
 
 -- lists with the same items are the same
 same_items : {X : Type 0} (xs ys : List X) → length xs ≡ length ys → ((k : ℕ) → k < length xs → slice_get xs k ≡ slice_get ys k) → xs ≡ ys

@@ -5,6 +5,7 @@ use Rattle.std.specs.List.{list_any}
 use Rattle.std.specs.Str.{bytes_eq}
 use Rattle.std.specs.Borrow.{Bor}
 use Rattle.std.proofs.lemmas.Bool.{cases_Bool}
+use Rattle.std.proofs.Math.Bool.{or-false}
 use Rattle.std.proofs.lemmas.List.{map-append, append-nil}
 use Rattle.std.proofs.lemmas.List.Folds.{list_any-append}
 use Rattle.std.proofs.lemmas.Grind.{flat_map-append}
@@ -16,7 +17,7 @@ use Rattle.module_units.specs.declared.parts.TypeUse.{TypeUse}
 use Rattle.export_lists.specs.Entries.{Listed}
 use Rattle.export_lists.specs.Lists.{Cmi, Imported, imported}
 use Rattle.export_lists.specs.Compiling.{is_among, type_name, types_in, types_of, unknown_in, unknown_lines}
-use Rattle.export_lists.specs.Types.{Knows, first_of}
+use Rattle.export_lists.specs.Types.{Knows}
 use Rattle.export_lists.proofs.Loops.{taken, dropped, all_imported}
 use Rattle.export_lists.proofs.Faults.{none_faulty}
 
@@ -27,13 +28,9 @@ moved_names e h = record { same = λ name. ap (λ ns. is_among ns name) e ∙ h.
 pub moved_known : {names known other : List (List ℕ)} → known ≡ other → Knows names known → Knows names other
 moved_known e h = record { same = λ name. h.same name ∙ ap (λ ns. is_among ns name) e }
 
-or_false : (b : Bool) → b || false ≡ b
-or_false true = refl
-or_false false = refl
-
 -- a name behind others
 behind : (names : List (List ℕ)) (last name : List ℕ) → is_among (names ++ last ∷ []) name ≡ (is_among names name || bytes_eq name last)
-behind names last name = list_any-append (bytes_eq name) names (last ∷ []) ∙ ap (λ b. is_among names name || b) (or_false (bytes_eq name last))
+behind names last name = list_any-append (bytes_eq name) names (last ∷ []) ∙ ap (λ b. is_among names name || b) (or-false (bytes_eq name last))
 
 -- a name that is there adds nothing
 stays : (names known : List (List ℕ)) (last : List ℕ) → Knows names known → is_among names last ≡ true → Knows names (known ++ last ∷ [])
@@ -48,7 +45,7 @@ stays names known last h there = record { same = λ name. by_name name (cases_Bo
         let same : name ≡ last = (bytes_eq-Decides name last).0 e in
         let found : is_among known name ≡ true = sym (h.same name) ∙ ap (is_among names) same ∙ there in
         h.same name ∙ true_or (is_among known name) found (bytes_eq name last) ∙ sym (behind known last name)
-    by_name name (inr e) = h.same name ∙ sym (or_false (is_among known name)) ∙ ap (λ b. is_among known name || b) (sym e) ∙ sym (behind known last name)
+    by_name name (inr e) = h.same name ∙ sym (or-false (is_among known name)) ∙ ap (λ b. is_among known name || b) (sym e) ∙ sym (behind known last name)
 
 -- a name that goes last
 goes_last : (names known : List (List ℕ)) (last : List ℕ) → Knows names known → Knows (names ++ last ∷ []) (known ++ last ∷ [])
@@ -109,12 +106,12 @@ unknown_same : (names known : List (List ℕ)) (uses : List TypeUse) → Knows n
 unknown_same names known uses h = ap (map (λ (u : TypeUse). u.line)) (filter_same names known uses h)
 
 -- the first of two lists
-first_front : (lines more : List ℕ) (line : ℕ) → first_of lines ≡ Some line → first_of (lines ++ more) ≡ Some line
+first_front : (lines more : List ℕ) (line : ℕ) → slice_get lines 0 ≡ Some line → slice_get (lines ++ more) 0 ≡ Some line
 first_front [] more line e = absurd (cc)
 first_front (l ∷ lines) more line e = e
 
-first_behind : (lines more : List ℕ) → first_of lines ≡ None → first_of (lines ++ more) ≡ first_of more
-first_behind lines more e = ap (λ ls. first_of (ls ++ more)) (none_faulty lines e)
+first_behind : (lines more : List ℕ) → slice_get lines 0 ≡ None → slice_get (lines ++ more) 0 ≡ slice_get more 0
+first_behind lines more e = ap (λ ls. slice_get (ls ++ more) 0) (none_faulty lines e)
 
 -- the lines of the rest
 rest_lines : (decls : List Decl) (k : ℕ) (decl : Decl) (known : List (List ℕ)) → slice_get decls k ≡ Some decl
@@ -122,23 +119,23 @@ rest_lines : (decls : List Decl) (k : ℕ) (decl : Decl) (known : List (List ℕ
 rest_lines decls k decl known e = ap (unknown_lines known) (dropped decls k decl e)
 
 pub undeclared_here : (decls : List Decl) (k : ℕ) (decl : Decl) (known names : List (List ℕ)) (line : ℕ) → k < length decls → decl ≡ get_or decls k decl
-    → Knows names (known ++ types_of (take k decls)) × (first_of (unknown_lines known decls) ≡ first_of (unknown_lines (known ++ types_of (take k decls)) (drop k decls)))
-    → Some line ≡ first_of (unknown_in names decl.types) → Some line ≡ first_of (unknown_lines known decls)
+    → Knows names (known ++ types_of (take k decls)) × (slice_get (unknown_lines known decls) 0 ≡ slice_get (unknown_lines (known ++ types_of (take k decls)) (drop k decls)) 0)
+    → Some line ≡ slice_get (unknown_in names decl.types) 0 → Some line ≡ slice_get (unknown_lines known decls) 0
 undeclared_here decls k decl known names line lt is was found =
     let e = slice_get_read decls (length decls) k decl refl lt is in
-    let here : first_of (unknown_in (known ++ types_of (take k decls)) decl.types) ≡ Some line = ap first_of (sym (unknown_same names (known ++ types_of (take k decls)) decl.types was.0)) ∙ sym found in
-    sym (was.1 ∙ ap first_of (rest_lines decls k decl (known ++ types_of (take k decls)) e) ∙ first_front (unknown_in (known ++ types_of (take k decls)) decl.types) (unknown_lines ((known ++ types_of (take k decls)) ++ type_name decl.kind decl.name) (drop (k + 1) decls)) line here)
+    let here : slice_get (unknown_in (known ++ types_of (take k decls)) decl.types) 0 ≡ Some line = ap (λ (lines : List ℕ). slice_get lines 0) (sym (unknown_same names (known ++ types_of (take k decls)) decl.types was.0)) ∙ sym found in
+    sym (was.1 ∙ ap (λ (lines : List ℕ). slice_get lines 0) (rest_lines decls k decl (known ++ types_of (take k decls)) e) ∙ first_front (unknown_in (known ++ types_of (take k decls)) decl.types) (unknown_lines ((known ++ types_of (take k decls)) ++ type_name decl.kind decl.name) (drop (k + 1) decls)) line here)
 
 pub undeclared_more : (decls : List Decl) (k : ℕ) (decl : Decl) (known names new : List (List ℕ)) → k < length decls → decl ≡ get_or decls k decl
-    → Knows names (known ++ types_of (take k decls)) × (first_of (unknown_lines known decls) ≡ first_of (unknown_lines (known ++ types_of (take k decls)) (drop k decls)))
-    → None ≡ first_of (unknown_in names decl.types) → ((other : List (List ℕ)) → Knows names other → Knows new (other ++ type_name decl.kind decl.name))
-    → Knows new (known ++ types_of (take (k + 1) decls)) × (first_of (unknown_lines known decls) ≡ first_of (unknown_lines (known ++ types_of (take (k + 1) decls)) (drop (k + 1) decls)))
+    → Knows names (known ++ types_of (take k decls)) × (slice_get (unknown_lines known decls) 0 ≡ slice_get (unknown_lines (known ++ types_of (take k decls)) (drop k decls)) 0)
+    → None ≡ slice_get (unknown_in names decl.types) 0 → ((other : List (List ℕ)) → Knows names other → Knows new (other ++ type_name decl.kind decl.name))
+    → Knows new (known ++ types_of (take (k + 1) decls)) × (slice_get (unknown_lines known decls) 0 ≡ slice_get (unknown_lines (known ++ types_of (take (k + 1) decls)) (drop (k + 1) decls)) 0)
 undeclared_more decls k decl known names new lt is was none adds =
     let e = slice_get_read decls (length decls) k decl refl lt is in
-    let here : first_of (unknown_in (known ++ types_of (take k decls)) decl.types) ≡ None = ap first_of (sym (unknown_same names (known ++ types_of (take k decls)) decl.types was.0)) ∙ sym none in
+    let here : slice_get (unknown_in (known ++ types_of (take k decls)) decl.types) 0 ≡ None = ap (λ (lines : List ℕ). slice_get lines 0) (sym (unknown_same names (known ++ types_of (take k decls)) decl.types was.0)) ∙ sym none in
     let grown : (known ++ types_of (take k decls)) ++ type_name decl.kind decl.name ≡ known ++ types_of (take (k + 1) decls) = flat_more (λ (d : Decl). type_name d.kind d.name) known decls k decl e in (
       moved_known grown (adds (known ++ types_of (take k decls)) was.0),
-      was.1 ∙ ap first_of (rest_lines decls k decl (known ++ types_of (take k decls)) e)
+      was.1 ∙ ap (λ (lines : List ℕ). slice_get lines 0) (rest_lines decls k decl (known ++ types_of (take k decls)) e)
           ∙ first_behind (unknown_in (known ++ types_of (take k decls)) decl.types) (unknown_lines ((known ++ types_of (take k decls)) ++ type_name decl.kind decl.name) (drop (k + 1) decls)) here
-          ∙ ap (λ ks. first_of (unknown_lines ks (drop (k + 1) decls))) grown,
+          ∙ ap (λ ks. slice_get (unknown_lines ks (drop (k + 1) decls)) 0) grown,
     )

@@ -3,12 +3,12 @@ use Rattle.std.proofs.Common.{◌≡◌, ℕ, List, [], ◌∷◌, Some, inl, in
 use Rattle.module_units.specs.Reading.{SourceReading, Good, Bad, ReadsUnit, Reads}
 use Rattle.module_units.proofs.OneReading.{one_reading}
 use Rattle.module_units.specs.declared.unit.Unit.{Unit as UnitOf}
-use Rattle.module_units.specs.declared.unit.SourceError.{SourceError}
 use Rattle.module_units.specs.declared.unit.SourceError.TheVariants as errors
 use Rattle.module_lexer.specs.declared.reason.SourceReason.{SourceReason}
 use Rattle.unit_registry.specs.Projects.{ProjectView, kind_of, name_of}
-use Rattle.export_lists.specs.Faults.{Fault}
-use Rattle.export_lists.specs.Sources.{project_faults, BreaksProject, IsUnitFor, Source, RefusesFor, first_told}
+use Rattle.module_units.specs.declared.faults.Fault.{Fault}
+use Rattle.module_units.specs.FaultRuns.{first_fault}
+use Rattle.export_lists.specs.Sources.{project_faults, BreaksProject, IsUnitFor, Source, RefusesFor}
 
 -- the faults of a unit in a project
 abbrev faults : ProjectView → ℕ → UnitOf → List Fault
@@ -47,11 +47,11 @@ one_source project number text (Bad line reason) (Bad other why) (inr a) (inr b)
     ap (λ fs. read_as fs (Bad line reason)) (sym a.first ∙ same_faults project number text a.unit b.unit a.read b.read ∙ b.first)
 
 -- a source whose unit breaks a rule is refused for it
-pub refused : (project : ProjectView) (number : ℕ) (text : List ℕ) (unit : UnitOf) (fault : SourceError) → ReadsUnit text unit → Some fault ≡ first_told (faults project number unit) → RefusesFor project number text fault
+pub refused : (project : ProjectView) (number : ℕ) (text : List ℕ) (unit : UnitOf) (fault : Fault) → ReadsUnit text unit → Some fault ≡ first_fault (faults project number unit) → RefusesFor project number text (errors.Text fault.line fault.reason)
 refused project number text unit fault read e = by_faults (faults project number unit) refl e
   where
-    by_faults : (found : List Fault) → faults project number unit ≡ found → Some fault ≡ first_told found → RefusesFor project number text fault
+    by_faults : (found : List Fault) → faults project number unit ≡ found → Some fault ≡ first_fault found → RefusesFor project number text (errors.Text fault.line fault.reason)
     by_faults [] is t = absurd (cc)
     by_faults (first ∷ others) is t =
-        let same : errors.Text first.line first.reason ≡ fault = cc in
-        subst (RefusesFor project number text) same (inr (record { unit = unit; others = others; read = read; first = is }))
+        let same : first ≡ fault = cc in
+        subst (λ (f : Fault). RefusesFor project number text (errors.Text f.line f.reason)) same (inr (record { unit = unit; others = others; read = read; first = is }))

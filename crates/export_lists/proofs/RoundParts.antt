@@ -4,6 +4,7 @@ use Rattle.std.specs.Prelude.{slice_get}
 use Rattle.std.specs.Option.{is_some}
 use Rattle.std.proofs.lemmas.Option.{slice_get_past, slice_get_within, same_Some}
 use Rattle.std.proofs.lemmas.Bool.{cases_eq, cases_lt}
+use Rattle.std.proofs.Math.Bool.{or-false, or-true}
 use Rattle.module_units.specs.declared.unit.Unit.{Unit as UnitOf}
 use Rattle.unit_registry.specs.Projects.{ProjectView, name_of}
 use Rattle.export_lists.specs.Lists.{Cmi}
@@ -78,25 +79,17 @@ part_stays project old now place false none c = (c.0, each)
           | inr same ↦ ap (settled_at project old) same ∙ sym (ap (λ slots. settled_at project slots place) c.0) ∙ none
         ]
 
-or_true : (b : Bool) → b || true ≡ true
-or_true true = refl
-or_true false = refl
-
-or_false : (b : Bool) → b || false ≡ b
-or_false true = refl
-or_false false = refl
-
 -- one unit more
 pub part_more : (project : ProjectView) (old now new : List Slot) (place : ℕ) (changed written : Bool) (outcome : Option Outcome) → outcome ≡ settled_at project now place → new ≡ with_outcome now place outcome → written ≡ is_some outcome → IsPart project old now place changed
     → IsPart project old new (place + 1) (changed || written)
 part_more project old now new place changed written None is new_is written_is p = record {
   leads = subst (LeadsTo project old) (sym new_is) p.leads;
-  changes = subst (λ b. PartChanges b project old new (place + 1)) (sym (ap (λ b. changed || b) written_is ∙ or_false changed))
+  changes = subst (λ b. PartChanges b project old new (place + 1)) (sym (ap (λ b. changed || b) written_is ∙ or-false changed))
       (subst (λ slots. PartChanges changed project old slots (place + 1)) (sym new_is) (part_stays project old now place changed (sym is) p.changes));
 }
 part_more project old now new place changed written (Some outcome) is new_is written_is p = record {
   leads = subst (LeadsTo project old) (sym new_is) (leads_on project old now (set now place (Over outcome)) p.leads (settled_leads project now place outcome s));
-  changes = subst (λ b. PartChanges b project old new (place + 1)) (sym (ap (λ b. changed || b) written_is ∙ or_true changed)) fewer;
+  changes = subst (λ b. PartChanges b project old new (place + 1)) (sym (ap (λ b. changed || b) written_is ∙ or-true changed)) fewer;
 }
   where
     s : Settles project now place outcome

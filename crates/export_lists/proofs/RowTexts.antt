@@ -7,9 +7,10 @@ use Rattle.cody_words.specs.Lines.{Words, Says}
 use Rattle.cody_words.specs.Canonical.{canonical_text}
 use Rattle.cody_words.proofs.Canon.{no_newline, canonical_line_is, line_says_its_words}
 use Rattle.cody_words.proofs.Verdicts.{one_meaning}
-use Rattle.export_lists.specs.Words.{line_of}
+use Rattle.export_lists.specs.Words.{line_of, Row}
 use Rattle.export_lists.specs.CmiFaults.{first_lines}
-use Rattle.export_lists.specs.Drafts.{Row, text_of, IsRow, IsLine}
+use Rattle.export_lists.specs.Drafts.{IsRow, IsLine}
+use Rattle.export_lists.proofs.Readings.{text_of}
 
 -- without a NEWLINE
 abbrev pub Clean : List ℕ → Type 0

@@ -1,19 +1,24 @@
 -- A draft stands behind the lines that led to it.
-use Rattle.std.proofs.Common.{◌≡◌, ℕ, suc, Bool, true, false, ◌&&◌, ◌==◌, List, [], ◌∷◌, ◌++◌, length, map, Option, Some, None, if◌then◌else◌, sym, ap, ◌∙◌, refl, subst, arith, append_assoc}
-use Rattle.std.specs.Prelude.{codes, is_some}
+use Rattle.std.proofs.Common.{◌≡◌, ℕ, Bool, true, false, ◌&&◌, ◌==◌, List, [], ◌∷◌, ◌++◌, length, map, Option, Some, None, if◌then◌else◌, sym, ap, ◌∙◌, refl, subst, append_assoc}
+use Rattle.std.specs.Prelude.{codes, is_some, option_and_then}
 use Rattle.std.specs.Option.{option_map}
 use Rattle.std.specs.Str.{bytes_eq}
-use Rattle.std.proofs.lemmas.Bool.{eqb-true}
-use Rattle.std.proofs.lemmas.List.{append-nil, map-append}
+use Rattle.std.proofs.lemmas.Bool.{eqb-true, and_parts}
+use Rattle.std.proofs.lemmas.Option.{cond_some}
+use Rattle.std.proofs.lemmas.List.{append-nil, map-append, nil_from_length}
 use Rattle.header_units.specs.Names.{name_kind}
+use Rattle.mapper_requests.specs.Requests.{word_at}
+use Rattle.unit_registry.specs.Lines.{is_word}
 use Rattle.module_units.specs.declared.parts.DeclKind.{DeclKind}
 use Rattle.export_lists.specs.Entries.{Listed}
 use Rattle.export_lists.specs.declared.draft.Lists.{Lists}
 use Rattle.export_lists.specs.declared.draft.Draft.{Draft}
 use Rattle.export_lists.specs.declared.draft.Draft.TheVariants.{Start, Headed, Listing, Over}
-use Rattle.export_lists.specs.Drafts.{Row, may_follow, may_all_follow, MayBeRead, head_row, unit_row, entry_row, end_row, rows_before, word_at, is_word, kind_in, role_in, cmi_of, blank, headed, with_role, begun, added, with_exports, with_view, exported, seen, with_entry_line, with_kind, lists_next, next, goes_on, led}
-use Rattle.export_lists.specs.Stands.{Stands}
-use Rattle.export_lists.proofs.Leads.{both, if_some, same_word, one_word, two_words, three_words, four_words, role_is, kind_is}
+use Rattle.export_lists.specs.Drafts.{may_follow, kind_in, role_in, cmi_of, blank, headed, with_role, begun, added, with_exports, with_view, exported, seen, with_entry_line, with_kind, lists_next, next}
+use Rattle.export_lists.proofs.Readings.{may_all_follow, MayBeRead, rows_before, led, Stands}
+use Rattle.export_lists.specs.CmiTexts.{head_row, unit_row, end_row}
+use Rattle.export_lists.specs.Words.{Row, entry_row}
+use Rattle.export_lists.proofs.Leads.{same_word, one_word, two_words, three_words, four_words, role_is, kind_is}
 
 -- entries may follow with one that may follow them
 follow_more : (before es : List Listed) (x : Listed) → may_all_follow before es ≡ true → may_follow (before ++ es) x ≡ true → may_all_follow before (es ++ x ∷ []) ≡ true
@@ -21,20 +26,16 @@ follow_more before [] x all may =
     let here : may_follow before x ≡ true = ap (λ b. may_follow b x) (sym (append-nil before)) ∙ may in
     ap (λ (b : Bool). b && true) here
 follow_more before (e ∷ es) x all may =
-    let parts = both (may_follow before e) (may_all_follow (before ++ e ∷ []) es) all in
+    let parts = and_parts (may_follow before e) (may_all_follow (before ++ e ∷ []) es) all in
     let rest = follow_more (before ++ e ∷ []) es x parts.1 (ap (λ b. may_follow b x) (append_assoc before (e ∷ []) es) ∙ may) in
     (λ k. parts.0 k && rest k)
 
 added_is : (entries more : List Listed) (x : Listed) → added entries x ≡ Some more → (may_follow entries x ≡ true) × (entries ++ x ∷ [] ≡ more)
-added_is entries more x e = if_some (may_follow entries x) (entries ++ x ∷ []) more e
+added_is entries more x e = cond_some (may_follow entries x) (entries ++ x ∷ []) more e
 
 mapped : {X Y : Type 0} (f : X → Y) (found : Option X) (y : Y) → option_map f found ≡ Some y → (x : X) × (found ≡ Some x) × (f x ≡ y)
 mapped f None y e = absurd (cc)
 mapped f (Some x) y e = (x, refl, cc)
-
-none_seen : (view : List Listed) → (length view == 0) ≡ true → view ≡ []
-none_seen [] e = refl
-none_seen (x ∷ view) e = let no : suc (length view) ≡ 0 = eqb-true (suc (length view)) 0 e in absurd (omega arith)
 
 unless : {X : Type 0} (b : Bool) (found : Option X) (y : X) → (if b then found else None) ≡ Some y → (b ≡ true) × (found ≡ Some y)
 unless true found y e = (refl, e)
@@ -42,9 +43,9 @@ unless false found y e = absurd (cc)
 
 head_stands : (rows : List Row) (words : Row) (after : Draft) → rows ≡ [] → headed words ≡ Some after → Stands after (rows ++ words ∷ [])
 head_stands rows words after none e =
-    let found = if_some (length words == 2 && is_word words 0 (codes "modmap-cmi") && is_word words 1 (codes "1")) Headed after e in
-    let outer = both (length words == 2 && is_word words 0 (codes "modmap-cmi")) (is_word words 1 (codes "1")) found.0 in
-    let inner = both (length words == 2) (is_word words 0 (codes "modmap-cmi")) outer.0 in
+    let found = cond_some (length words == 2 && is_word words 0 (codes "modmap-cmi") && is_word words 1 (codes "1")) Headed after e in
+    let outer = and_parts (length words == 2 && is_word words 0 (codes "modmap-cmi")) (is_word words 1 (codes "1")) found.0 in
+    let inner = and_parts (length words == 2) (is_word words 0 (codes "modmap-cmi")) outer.0 in
     let zeroth = same_word (word_at words 0) (codes "modmap-cmi") inner.1 in
     let first = same_word (word_at words 1) (codes "1") outer.1 in
     let is : words ≡ head_row = two_words words (eqb-true (length words) 2 inner.0) ∙ (λ k. zeroth k ∷ first k ∷ []) in
@@ -53,14 +54,14 @@ head_stands rows words after none e =
 unit_stands : (rows : List Row) (words : Row) (after : Draft) → rows ≡ head_row ∷ [] → begun words ≡ Some after → Stands after (rows ++ words ∷ [])
 unit_stands rows words after was e =
     let found = unless (length words == 3 && is_word words 0 (codes "unit")) (with_role (word_at words 1) (role_in (word_at words 2))) after e in
-    let inner = both (length words == 3) (is_word words 0 (codes "unit")) found.0 in
+    let inner = and_parts (length words == 3) (is_word words 0 (codes "unit")) found.0 in
     by_role (role_in (word_at words 2)) refl found.1 (same_word (word_at words 0) (codes "unit") inner.1) (three_words words (eqb-true (length words) 3 inner.0))
   where
     by_role : (role : Option Bool) → role_in (word_at words 2) ≡ role → with_role (word_at words 1) role ≡ Some after → word_at words 0 ≡ codes "unit"
         → words ≡ word_at words 0 ∷ word_at words 1 ∷ word_at words 2 ∷ [] → Stands after (rows ++ words ∷ [])
     by_role None is e first three = absurd (cc)
     by_role (Some interface) is e first three =
-        let good = if_some (is_some (name_kind (word_at words 1))) (Listing (blank (word_at words 1) interface)) after e in
+        let good = cond_some (is_some (name_kind (word_at words 1))) (Listing (blank (word_at words 1) interface)) after e in
         let role = role_is (word_at words 2) interface is in
         let same : words ≡ unit_row (word_at words 1) interface = three ∙ (λ k. first k ∷ word_at words 1 ∷ role k ∷ []) in
         subst (λ d. Stands d (rows ++ words ∷ [])) good.1 (record { named = good.0; exports = refl; view = refl }, (λ k. was k ++ same k ∷ []))
@@ -92,7 +93,7 @@ entry_stands lists rows first x after good was e = by_first (bytes_eq first (cod
         let more = added_is lists.exports made.0 x made.1 in
         subst (λ d. Stands d (rows ++ entry_row first x ∷ [])) (ap (with_exports lists) more.1 ∙ made.2) (
           record { named = good.named; exports = follow_more [] lists.exports x good.exports more.0; view = good.view },
-          (λ k. was k ++ entry_row (is k) x ∷ []) ∙ export_more lists x (none_seen lists.view none.0),
+          (λ k. was k ++ entry_row (is k) x ∷ []) ∙ export_more lists x (nil_from_length lists.view (eqb-true (length lists.view) 0 none.0)),
         )
 
     inner_stands : first ≡ codes "inner" → seen lists x ≡ Some after → Stands after (rows ++ entry_row first x ∷ [])
@@ -128,7 +129,7 @@ lists_stand lists rows words after good was e = by_count (length words == 4) (le
         → Stands after (rows ++ words ∷ [])
     by_count true c is other e = by_kind (kind_in (word_at words 1)) refl (four_words words (eqb-true (length words) 4 is)) e
     by_count false true is other e =
-        let inner = both (length words == 1) (is_word words 0 (codes "end")) other in
+        let inner = and_parts (length words == 1) (is_word words 0 (codes "end")) other in
         let end = same_word (word_at words 0) (codes "end") inner.1 in
         let last : words ≡ end_row = one_word words (eqb-true (length words) 1 inner.0) ∙ (λ k. end k ∷ []) in
         let done : Over (cmi_of lists) ≡ after = cc in
@@ -151,7 +152,7 @@ led_stands draft after rows (words ∷ more) h e =
   where
     by_next : (found : Option Draft) → next draft words ≡ found
         → ((d : Draft) → next draft words ≡ Some d → led d more ≡ Some after → Stands after ((rows ++ words ∷ []) ++ more))
-        → goes_on found (λ d. led d more) ≡ Some after → Stands after (rows ++ words ∷ more)
+        → option_and_then (λ d. led d more) found ≡ Some after → Stands after (rows ++ words ∷ more)
     by_next None is rest e = absurd (cc)
     by_next (Some d) is rest e = subst (λ rs. Stands after rs) (append_assoc rows (words ∷ []) more) (rest d is e)
 

@@ -1,5 +1,5 @@
 -- Tables of the units of a project: what is over is right, and what no round finishes has failed.
-use Rattle.std.proofs.Common.{◌≡◌, ℕ, zero, suc, ◌+◌, ◌-◌, ◌<◌, ◌≤◌, List, [], ◌∷◌, length, map, inl, inr, ◌⊎◌, Option, Some, None, Result, Ok, Err, sym, ap, ◌∙◌, refl, subst, arith, set, length-set}
+use Rattle.std.proofs.Common.{◌≡◌, ℕ, zero, suc, ◌+◌, ◌-◌, ◌<◌, ◌≤◌, List, [], ◌∷◌, length, map, inl, inr, ◌⊎◌, Option, Some, None, Result, Ok, Err, sym, ap, ◌∙◌, refl, subst, arith, set, length-set, option_and_then}
 use Rattle.std.specs.Prelude.{slice_get, option_map}
 use Rattle.std.proofs.lemmas.Bool.{cases_eq}
 use Rattle.std.proofs.lemmas.List.{length-map}
@@ -9,7 +9,7 @@ use Rattle.module_units.specs.declared.parts.Import.{Import as ImportOf}
 use Rattle.module_units.specs.Reading.{Good, Bad}
 use Rattle.unit_registry.specs.Projects.{ProjectView, unit_count, name_of, find_unit}
 use Rattle.export_lists.specs.Lists.{Cmi}
-use Rattle.export_lists.specs.Outcomes.{Origin, FromSource, FromCmi, Interfaces, interface_at, put_first, gathered, outcome_over, step, at_start, cmi_of, cmi_in, outcome_at, outcome, Outcome, Failed}
+use Rattle.export_lists.specs.Outcomes.{Origin, FromSource, FromCmi, Interfaces, put_first, gathered, outcome_over, step, at_start, cmi_in, outcome_at, outcome, Outcome, Failed}
 use Rattle.export_lists.specs.declared.outcome.Verdict.TheVariants as verdicts
 use Rattle.export_lists.specs.Slots.{Slot, Left, Over, first_slot, slot_cmi, has_of, left_count, IsSound, Within, at_depth, IsTable, finished, settled, settled_at, IsStuck}
 use Rattle.export_lists.proofs.Depth.{step_within, deeper, deeper_by, gathered_within, table_whole}
@@ -35,7 +35,7 @@ gathered_same project has more same [] = refl
 gathered_same project has more same (import ∷ imports) =
     λ k. put_first (at_unit (find_unit project import.name) k) import.name (gathered_same project has more same imports k)
   where
-    at_unit : (unit : Option ℕ) → interface_at unit has ≡ interface_at unit more
+    at_unit : (unit : Option ℕ) → option_and_then has unit ≡ option_and_then more unit
     at_unit None = refl
     at_unit (Some unit) = same unit
 
@@ -118,7 +118,7 @@ table_settled project origins slots number unit cmis t left all =
     let stepped : step project (has_of slots) number (slice_get origins number) ≡ Some (outcome_over (name_of project number) unit (Ok cmis)) = left_step project origins (has_of slots) number unit (Ok cmis) is all in
     table_more project origins slots number unit (outcome_over (name_of project number) unit (Ok cmis)) t left
     (outcome_step project origins number positive ∙ left_step project origins (at_depth project origins last) number unit (Ok cmis) is deep)
-    (λ cmi e. step_within project (has_of slots) (at_depth project origins (unit_count project - left_count slots)) t.within number (slice_get origins number) cmi (ap cmi_of stepped ∙ e))
+    (λ cmi e. step_within project (has_of slots) (at_depth project origins (unit_count project - left_count slots)) t.within number (slice_get origins number) cmi (ap (option_and_then cmi_in) stepped ∙ e))
 
 -- a unit whose imports have interfaces is settled
 pub not_settled : (name : List ℕ) (unit : UnitOf) (found : Result (List Cmi) (List ℕ)) → finished name unit found ≡ None → (import : List ℕ) × (found ≡ Err import)
@@ -131,7 +131,7 @@ stuck_at project slots number unit stuck left =
     not_settled (name_of project number) unit (gathered project (has_of slots) unit.imports) (sym (ap (λ s. settled s project (has_of slots) number) left) ∙ stuck.each number)
 
 -- in a table that is stuck no step finds another interface
-stays : (project : ProjectView) (origins : List Origin) (slots : List Slot) → IsTable project origins slots → IsStuck project slots → 1 ≤ left_count slots → (unit : ℕ) (cmi : Cmi) → cmi_of (step project (has_of slots) unit (slice_get origins unit)) ≡ Some cmi → has_of slots unit ≡ Some cmi
+stays : (project : ProjectView) (origins : List Origin) (slots : List Slot) → IsTable project origins slots → IsStuck project slots → 1 ≤ left_count slots → (unit : ℕ) (cmi : Cmi) → option_and_then cmi_in (step project (has_of slots) unit (slice_get origins unit)) ≡ Some cmi → has_of slots unit ≡ Some cmi
 stays project origins slots t stuck some unit cmi e = by_slot (there_or_not (slice_get slots unit))
   where
     bound : left_count slots ≤ length slots
@@ -141,20 +141,20 @@ stays project origins slots t stuck some unit cmi e = by_slot (there_or_not (sli
     by_one (Left source) is =
         let lack = stuck_at project slots unit source stuck is in
         let stepped : step project (has_of slots) unit (slice_get origins unit) ≡ Some (Failed (verdicts.Import lack.0)) = left_step project origins (has_of slots) unit source (Err lack.0) (t.sound unit (Left source) is) lack.1 in
-        let none : None ≡ Some cmi = sym (ap cmi_of stepped) ∙ e in
+        let none : None ≡ Some cmi = sym (ap (option_and_then cmi_in) stepped) ∙ e in
         absurd (cc)
     by_one (Over found) is =
         let positive : 0 < unit_count project = (let count : length slots ≡ unit_count project = t.count in let b = bound in omega arith) in
-        let deep : cmi_of (step project (at_depth project origins (unit_count project - 1)) unit (slice_get origins unit)) ≡ Some cmi =
+        let deep : option_and_then cmi_in (step project (at_depth project origins (unit_count project - 1)) unit (slice_get origins unit)) ≡ Some cmi =
         step_within project (has_of slots) (at_depth project origins (unit_count project - 1)) (table_deep project origins slots t some) unit (slice_get origins unit) cmi e in
         let over : outcome project origins unit ≡ Some found = t.sound unit (Over found) is in
-        ap slot_cmi is ∙ ap cmi_of (sym over) ∙ ap cmi_of (outcome_step project origins unit positive) ∙ deep
+        ap slot_cmi is ∙ ap (option_and_then cmi_in) (sym over) ∙ ap (option_and_then cmi_in) (outcome_step project origins unit positive) ∙ deep
 
     by_slot : ((slot : Slot) × (slice_get slots unit ≡ Some slot)) ⊎ (slice_get slots unit ≡ None) → has_of slots unit ≡ Some cmi
     by_slot (inl h) = by_one h.0 h.1
     by_slot (inr none) =
         let outside : length origins ≤ unit = (let out : length slots ≤ unit = none_past slots unit none in let count : length slots ≡ unit_count project = t.count in let many : length origins ≡ unit_count project = t.are_so_many in omega arith) in
-        let nothing : None ≡ Some cmi = sym (ap (λ o. cmi_of (step project (has_of slots) unit o)) (slice_get_past origins unit outside)) ∙ e in
+        let nothing : None ≡ Some cmi = sym (ap (λ o. option_and_then cmi_in (step project (has_of slots) unit o)) (slice_get_past origins unit outside)) ∙ e in
         absurd (cc)
 
 -- the outcome of a unit that is left in a table that is stuck
@@ -235,7 +235,7 @@ table_first project origins many = record {
           | inr none ↦ let nothing : None ≡ Some slot = sym (slice_get-map first_slot origins k ∙ ap (option_map first_slot) none) ∙ e in absurd (cc)
         ]
 
-    start_of : (origin : Option Origin) (cmi : Cmi) → slot_cmi (option_map first_slot origin) ≡ Some cmi → cmi_of (at_start origin) ≡ Some cmi
+    start_of : (origin : Option Origin) (cmi : Cmi) → slot_cmi (option_map first_slot origin) ≡ Some cmi → option_and_then cmi_in (at_start origin) ≡ Some cmi
     start_of (Some (FromCmi built)) cmi e = e
     start_of (Some (FromSource (Good unit))) cmi e = absurd (cc)
     start_of (Some (FromSource (Bad line reason))) cmi e = absurd (cc)

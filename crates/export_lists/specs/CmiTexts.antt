@@ -7,24 +7,36 @@ use Rattle.header_units.specs.Names.{is_identifier, name_kind}
 use Rattle.export_lists.specs.Entries.{Listed, distinct}
 use Rattle.export_lists.specs.Lists.{Cmi}
 use Rattle.export_lists.specs.Compiling.{most_names}
-use Rattle.export_lists.specs.Words.{line_of, entry_lines}
+use Rattle.export_lists.specs.Words.{Row, line_of, entry_lines}
 
 -- the word for whether a unit is an interface
 abbrev pub role_word : Bool → List ℕ
 role_word true = codes "interface"
 role_word false = codes "implementation"
 
+-- the words of the first line
+abbrev pub head_row : Row
+head_row = codes "modmap-cmi" ∷ codes "1" ∷ []
+
+-- the words of the line of a unit
+abbrev pub unit_row : List ℕ → Bool → Row
+unit_row name interface = codes "unit" ∷ name ∷ role_word interface ∷ []
+
+-- the words of the last line
+abbrev pub end_row : Row
+end_row = codes "end" ∷ []
+
 -- the first line
 abbrev pub head_line : List ℕ
-head_line = line_of (codes "modmap-cmi" ∷ codes "1" ∷ [])
+head_line = line_of head_row
 
 -- the line of the unit
 abbrev pub unit_line : Cmi → List ℕ
-unit_line cmi = line_of (codes "unit" ∷ cmi.unit ∷ role_word cmi.interface ∷ [])
+unit_line cmi = line_of (unit_row cmi.unit cmi.interface)
 
 -- the last line
 abbrev pub end_line : List ℕ
-end_line = line_of (codes "end" ∷ [])
+end_line = line_of end_row
 
 -- the text: the first line, that of the unit, one for each entry of the exports and of the view, and the last line
 abbrev pub cmi_text : Cmi → List ℕ

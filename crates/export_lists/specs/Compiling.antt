@@ -5,16 +5,19 @@ use Rattle.std.specs.Str.{bytes_eq}
 use Rattle.module_units.specs.declared.unit.Unit.{Unit as UnitOf}
 use Rattle.module_units.specs.declared.parts.Decl.{Decl}
 use Rattle.module_units.specs.declared.parts.TypeUse.{TypeUse}
-use Rattle.module_units.specs.Rules.{can_export}
-use Rattle.export_lists.specs.Faults.{Fault, line_if, faults_on}
+use Rattle.module_units.specs.declared.faults.Fault.{Fault}
+use Rattle.module_units.specs.Rules.{fault_if, can_export}
 use Rattle.module_units.specs.declared.parts.DeclKind.{DeclKind}
 use Rattle.module_units.specs.declared.parts.DeclKind.TheVariants as kinds
 use Rattle.module_units.specs.declared.parts.UnitKind.{UnitKind}
 use Rattle.module_units.specs.declared.parts.UnitKind.TheVariants.{Interface, Implementation, PartitionInterface, PartitionImplementation, Plain}
 use Rattle.module_units.specs.declared.unit.SourceError.{SourceError}
 use Rattle.module_units.specs.declared.unit.SourceError.TheVariants as errors
+use Rattle.module_lexer.specs.declared.reason.SourceReason.{SourceReason}
 use Rattle.module_lexer.specs.declared.reason.SourceReason.TheVariants.{ExportedImplementation, UnknownType, TooManyNames}
 use Rattle.export_lists.specs.Entries.{Listed}
+use Rattle.export_lists.specs.declared.listed.Own.{Own}
+use Rattle.export_lists.specs.declared.listed.Own.TheVariants as taken
 use Rattle.export_lists.specs.Lists.{Cmi, Imported, imported, brought, exports, view}
 
 -- the most names of a list of exports, and of a view
@@ -32,6 +35,10 @@ is_header PartitionImplementation name = false
 -- whether a unit is an interface: a module's, a partition's, or a header unit
 abbrev pub is_interface : UnitKind → List ℕ → Bool
 is_interface kind name = can_export kind || is_header kind name
+
+-- which of its own declarations a unit exports: a header unit all of them, and another those that are exported
+abbrev pub own_exports : UnitKind → List ℕ → Own
+own_exports kind name = if is_header kind name then taken.All else taken.Exported
 
 -- the owner of a unit's own declarations: its module, or of one without a module declaration its name
 abbrev pub owner_of : UnitKind → List ℕ → List ℕ → List ℕ
@@ -86,12 +93,12 @@ export_lines imports = map (λ import. import.0.line) (filter is_bad_export impo
 abbrev pub is_too_long : List Listed → Bool
 is_too_long entries = nat_lt most_names (length entries)
 
--- the interface of a unit of this name, if it has no fault; a header unit exports all its declarations
+-- the interface of a unit of this name, if it has no fault
 abbrev pub interface_of : List ℕ → UnitOf → List Cmi → Cmi
 interface_of name unit cmis = record {
   unit = name;
   interface = is_interface unit.kind name;
-  exports = exports (is_header unit.kind name) (owner_of unit.kind name unit.module) unit cmis;
+  exports = exports (own_exports unit.kind name) (owner_of unit.kind name unit.module) unit cmis;
   view = view (owner_of unit.kind name unit.module) unit cmis;
 }
 
@@ -99,6 +106,10 @@ interface_of name unit cmis = record {
 abbrev pub unless_faulty : List Fault → Cmi → Result Cmi Fault
 unless_faulty [] cmi = Ok cmi
 unless_faulty (fault ∷ faults) cmi = Err fault
+
+-- a fault on each of these lines
+abbrev pub faults_on : SourceReason → List ℕ → List Fault
+faults_on reason lines = map (λ line. record { line = line; reason = reason }) lines
 
 -- the faults of a unit's imports and declarations: exports of units that are no interfaces, and then unknown types
 abbrev pub faults_within : UnitOf → List Cmi → List Fault
@@ -108,7 +119,7 @@ faults_within unit cmis =
 
 -- the fault of an interface with too many names
 abbrev pub faults_of_lists : Cmi → List Fault
-faults_of_lists cmi = faults_on TooManyNames (line_if (is_too_long cmi.view || is_too_long cmi.exports) 1)
+faults_of_lists cmi = fault_if (is_too_long cmi.view || is_too_long cmi.exports) 1 TooManyNames
 
 -- what a unit of this name compiles to: its interface, or its first fault
 abbrev pub compiled : List ℕ → UnitOf → List Cmi → Result Cmi Fault

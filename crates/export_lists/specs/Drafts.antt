@@ -1,6 +1,6 @@
 -- Working definitions: how the text of an interface is read, line by line.
-use Rattle.std.specs.Prelude.{◌≡◌, ◌≢◌, ◌≤◌, ℕ, suc, Bool, true, false, not, ◌&&◌, ◌==◌, nat_lt, if◌then◌else◌, List, [], ◌∷◌, ◌++◌, length, map, flat_map, slice_get, Option, Some, None, is_some, unwrap_or, Result, Ok, Err, codes}
-use Rattle.std.specs.List.{AllByRecursion, list_any}
+use Rattle.std.specs.Prelude.{◌≡◌, ◌≢◌, ◌≤◌, ℕ, Bool, true, false, not, ◌&&◌, ◌==◌, nat_lt, if◌then◌else◌, List, [], ◌∷◌, ◌++◌, length, find, Option, Some, None, is_some, Result, Ok, Err, codes}
+use Rattle.std.specs.List.{list_any}
 use Rattle.std.specs.Option.{option_map}
 use Rattle.std.specs.Str.{bytes_eq}
 use Rattle.mm_outside.specs.declared.errors.Memory.{Memory}
@@ -8,12 +8,14 @@ use Rattle.cody_words.specs.Octets.{newline}
 use Rattle.cody_words.specs.Lines.{longest_line}
 use Rattle.cody_words.specs.Canonical.{canonical_text}
 use Rattle.header_units.specs.Names.{name_kind}
+use Rattle.mapper_requests.specs.Requests.{word_at}
+use Rattle.unit_registry.specs.Lines.{is_word}
 use Rattle.module_units.specs.declared.parts.DeclKind.{DeclKind}
 use Rattle.module_units.specs.declared.parts.DeclKind.TheVariants.{Struct, Class, Alias, Variable, Function}
 use Rattle.export_lists.specs.Entries.{Listed, is_same}
 use Rattle.export_lists.specs.Lists.{Cmi}
 use Rattle.export_lists.specs.Compiling.{most_names}
-use Rattle.export_lists.specs.Words.{kind_word, line_of}
+use Rattle.export_lists.specs.Words.{Row, kind_word, line_of}
 use Rattle.export_lists.specs.CmiTexts.{role_word, is_good_entry}
 use Rattle.export_lists.specs.declared.cmi_error.CmiError.{CmiError}
 use Rattle.export_lists.specs.declared.cmi_error.CmiError.TheVariants as errors
@@ -25,38 +27,6 @@ use Rattle.export_lists.specs.declared.draft.Draft.TheVariants.{Start, Headed, L
 
 -- ---- the words of lines
 
--- the words of a line
-abbrev pub Row : Type 0
-Row = List (List ℕ)
-
--- the words of the first line
-abbrev pub head_row : Row
-head_row = codes "modmap-cmi" ∷ codes "1" ∷ []
-
--- the words of the line of a unit
-abbrev pub unit_row : List ℕ → Bool → Row
-unit_row name interface = codes "unit" ∷ name ∷ role_word interface ∷ []
-
--- the words of an entry's line, behind a first word
-abbrev pub entry_row : List ℕ → Listed → Row
-entry_row first entry = first ∷ kind_word entry.kind ∷ entry.name ∷ entry.owner ∷ []
-
--- the words of the last line
-abbrev pub end_row : Row
-end_row = codes "end" ∷ []
-
--- the words of the lines of an interface before its last
-abbrev pub rows_before : Cmi → List Row
-rows_before cmi = head_row ∷ unit_row cmi.unit cmi.interface ∷ map (entry_row (codes "export")) cmi.exports ++ map (entry_row (codes "inner")) cmi.view
-
--- the words of the lines of an interface
-abbrev pub rows_of : Cmi → List Row
-rows_of cmi = rows_before cmi ++ end_row ∷ []
-
--- the text of lines of these words
-abbrev pub text_of : List Row → List ℕ
-text_of rows = flat_map line_of rows
-
 -- The words stand on a line that isn't too long.
 pub record IsRow (words : Row) : Type 0 where
   pub some : words ≢ []
@@ -67,49 +37,19 @@ pub record IsLine (line : List ℕ) (words : Row) : Type 0 where
   pub row : IsRow words
   pub same : line ++ newline ∷ [] ≡ line_of words
 
--- ---- entries one by one
+-- ---- one line more
 
 -- whether an entry may follow these: it may be read, they aren't too many, and none of them is equal to it
 abbrev pub may_follow : List Listed → Listed → Bool
 may_follow before entry = is_good_entry entry.name entry.owner && (nat_lt (length before) most_names && not (list_any (is_same entry) before))
 
--- whether entries may follow these, one by one
-abbrev pub may_all_follow : List Listed → List Listed → Bool
-may_all_follow before [] = true
-may_all_follow before (entry ∷ entries) = may_follow before entry && may_all_follow (before ++ entry ∷ []) entries
-
--- An interface whose lines may be read one by one.
-pub record MayBeRead (cmi : Cmi) : Type 0 where
-  pub named : is_some (name_kind cmi.unit) ≡ true
-  pub exports : may_all_follow [] cmi.exports ≡ true
-  pub view : may_all_follow [] cmi.view ≡ true
-
--- ---- one line more
-
--- the word at a place, or nothing where there is none
-abbrev pub word_at : Row → ℕ → List ℕ
-word_at words place = unwrap_or (slice_get words place) []
-
--- whether the word at a place is this one
-abbrev pub is_word : Row → ℕ → List ℕ → Bool
-is_word words place word = bytes_eq (word_at words place) word
-
 -- the kind of declaration that a word stands for
 abbrev pub kind_in : List ℕ → Option DeclKind
-kind_in word =
-    if bytes_eq word (codes "struct") then Some Struct
-    else if bytes_eq word (codes "class") then Some Class
-    else if bytes_eq word (codes "alias") then Some Alias
-    else if bytes_eq word (codes "variable") then Some Variable
-    else if bytes_eq word (codes "function") then Some Function
-    else None
+kind_in word = find (λ kind. bytes_eq word (kind_word kind)) (Struct ∷ Class ∷ Alias ∷ Variable ∷ Function ∷ [])
 
 -- whether a unit is an interface, by the word for it
 abbrev pub role_in : List ℕ → Option Bool
-role_in word =
-    if bytes_eq word (codes "interface") then Some true
-    else if bytes_eq word (codes "implementation") then Some false
-    else None
+role_in word = find (λ interface. bytes_eq word (role_word interface)) (true ∷ false ∷ [])
 
 -- the interface of lists
 abbrev pub cmi_of : Lists → Cmi
@@ -180,16 +120,6 @@ next Headed words = begun words
 next (Listing lists) words = lists_next lists words
 next (Over cmi) words = None
 
--- goes on behind a line
-abbrev pub goes_on : Option Draft → (Draft → Option Draft) → Option Draft
-goes_on None more = None
-goes_on (Some draft) more = more draft
-
--- the draft behind lines of these words, if there is one
-abbrev pub led : Draft → List Row → Option Draft
-led draft [] = Some draft
-led draft (words ∷ rows) = goes_on (next draft words) (λ after. led after rows)
-
 -- ---- what calls answer
 
 -- the answer is what was found, or that there is nothing, unless memory ran out
@@ -219,11 +149,3 @@ abbrev pub EndsSo : Draft → ℕ → List ℕ → Result Cmi CmiError → Type 
 EndsSo draft number rest (Ok cmi) = (draft ≡ Over cmi) × (rest ≡ [])
 EndsSo draft number rest (Err (errors.Text line)) = (line ≡ number) × ((cmi : Cmi) → draft ≡ Over cmi → rest ≢ [])
 EndsSo draft number rest (Err errors.Memory) = Unit {0}
-
--- The text up to the rest was read: its lines led to the draft, and the next line has this number.
-pub record HasRead (text : List ℕ) (draft : Draft) (number : ℕ) (rest : List ℕ) : Type 0 where
-  pub rows : List Row
-  pub each : AllByRecursion IsRow rows
-  pub leads : led Start rows ≡ Some draft
-  pub whole : text ≡ text_of rows ++ rest
-  pub counted : number ≡ suc (length rows)

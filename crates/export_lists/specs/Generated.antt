@@ -2,6 +2,8 @@
 use Rattle.std.specs.Prelude.{ℕ, zero, suc, ◌+◌, ◌*◌, ◌/◌, ◌%◌, ◌==◌, Bool, true, false, List, [], ◌∷◌, ◌++◌, flat_map, if◌then◌else◌, codes, decimal}
 use Rattle.std.specs.List.{list_any}
 use Rattle.cody_words.specs.Octets.{newline}
+use Rattle.unit_registry.specs.declared.kind.Kind.TheVariants.{Module}
+use Rattle.unit_registry.specs.Grammar.{kind_words, head_words, repo_words, end_words}
 use Rattle.export_lists.specs.Words.{line_of}
 pub use Rattle.export_lists.specs.declared.generated.Generated.{Generated}
 use Rattle.export_lists.specs.declared.draws.Link.{Link}
@@ -97,22 +99,23 @@ abbrev pub sources_of : ℕ → ℕ → List (List ℕ)
 sources_of seed zero = []
 sources_of seed (suc number) = sources_of seed number ++ source_of number (links_from number (state_before seed number)).links ∷ []
 
+-- the path of the source of a unit
+abbrev pub source_path : List ℕ → ℕ → List ℕ
+source_path folder number = folder ++ (numbered (codes "/u") number ++ codes ".cc")
+
 -- the line of a unit in the project file
-abbrev pub unit_line : List ℕ → ℕ → List ℕ
-unit_line folder number = line_of (codes "module" ∷ numbered (codes "g") number ∷ (folder ++ (numbered (codes "/u") number ++ codes ".cc")) ∷ [])
+abbrev pub module_line : List ℕ → ℕ → List ℕ
+module_line folder number = line_of (kind_words Module (numbered (codes "g") number) (source_path folder number))
 
 -- the lines of so many units
-abbrev pub unit_lines : List ℕ → ℕ → List ℕ
-unit_lines folder zero = []
-unit_lines folder (suc number) = unit_lines folder number ++ unit_line folder number
+abbrev pub module_lines : List ℕ → ℕ → List ℕ
+module_lines folder zero = []
+module_lines folder (suc number) = module_lines folder number ++ module_line folder number
 
 -- the project file
 abbrev pub project_text : List ℕ → ℕ → List ℕ
 project_text folder units =
-    line_of (codes "modmap-project" ∷ codes "1" ∷ [])
-    ++ line_of (codes "repo" ∷ (folder ++ codes "/cache") ∷ [])
-    ++ unit_lines folder units
-    ++ line_of (codes "end" ∷ [])
+    line_of head_words ++ line_of (repo_words (folder ++ codes "/cache")) ++ module_lines folder units ++ line_of end_words
 
 -- the generated project
 abbrev pub generated : List ℕ → ℕ → ℕ → Generated

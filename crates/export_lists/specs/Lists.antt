@@ -1,5 +1,5 @@
 -- What a unit exports and sees, over the interfaces of its imports.
-use Rattle.std.specs.Prelude.{ℕ, Bool, true, ◌||◌, ◌==◌, List, ◌++◌, map, filter, zip, flat_map, [], if◌then◌else◌}
+use Rattle.std.specs.Prelude.{ℕ, Bool, true, ◌==◌, List, ◌++◌, map, filter, zip, flat_map, [], if◌then◌else◌}
 use Rattle.std.specs.List.{before_first}
 use Rattle.std.specs.Str.{bytes_eq}
 use Rattle.header_units.specs.Octets.{colon}
@@ -7,6 +7,8 @@ use Rattle.module_units.specs.declared.unit.Unit.{Unit as UnitOf}
 use Rattle.module_units.specs.declared.parts.Decl.{Decl}
 use Rattle.module_units.specs.declared.parts.Import.{Import as ImportOf}
 use Rattle.export_lists.specs.Entries.{Listed, distinct}
+use Rattle.export_lists.specs.declared.listed.Own.{Own}
+use Rattle.export_lists.specs.declared.listed.Own.TheVariants as taken
 pub use Rattle.export_lists.specs.declared.cmi.Cmi.{Cmi}
 
 -- an import, with the interface of its unit
@@ -41,14 +43,19 @@ passes_on import = if import.0.exported then import.1.exports else []
 abbrev pub entry_of : List ℕ → Decl → Listed
 entry_of owner decl = record { kind = decl.kind; name = decl.name; owner = owner }
 
--- the declarations as entries: all, or those that are exported
-abbrev pub own_entries : Bool → List ℕ → List Decl → List Listed
-own_entries all owner decls = map (entry_of owner) (filter (λ decl. all || decl.exported) decls)
+-- whether a list takes a declaration: any, or one that is exported
+abbrev pub is_taken : Own → Decl → Bool
+is_taken taken.All decl = true
+is_taken taken.Exported decl = decl.exported
 
--- what a unit exports: its own exported declarations, and what its exported imports export
-abbrev pub exports : Bool → List ℕ → UnitOf → List Cmi → List Listed
-exports all owner unit cmis = distinct (own_entries all owner unit.decls ++ flat_map passes_on (imported unit cmis))
+-- the declarations that are taken, as entries of this owner
+abbrev pub own_entries : Own → List ℕ → List Decl → List Listed
+own_entries own owner decls = map (entry_of owner) (filter (is_taken own) decls)
+
+-- what a unit exports: its own declarations that are taken, and what its exported imports export
+abbrev pub exports : Own → List ℕ → UnitOf → List Cmi → List Listed
+exports own owner unit cmis = distinct (own_entries own owner unit.decls ++ flat_map passes_on (imported unit cmis))
 
 -- what a unit sees: all its own declarations, and what its imports bring
 abbrev pub view : List ℕ → UnitOf → List Cmi → List Listed
-view owner unit cmis = distinct (own_entries true owner unit.decls ++ brought unit cmis)
+view owner unit cmis = distinct (own_entries taken.All owner unit.decls ++ brought unit cmis)

@@ -1,8 +1,8 @@
 -- What becomes of the units of a project, by recursion along their imports.
-use Rattle.std.specs.Prelude.{ℕ, zero, suc, List, [], ◌∷◌, Option, Some, None, Result, Ok, Err, slice_get}
+use Rattle.std.specs.Prelude.{ℕ, zero, suc, List, [], ◌∷◌, Option, Some, None, Result, Ok, Err, slice_get, option_and_then}
 use Rattle.module_units.specs.declared.unit.Unit.{Unit as UnitOf}
 use Rattle.module_units.specs.declared.parts.Import.{Import as ImportOf}
-use Rattle.export_lists.specs.Faults.{Fault}
+use Rattle.module_units.specs.declared.faults.Fault.{Fault}
 use Rattle.module_units.specs.Reading.{SourceReading, Good, Bad}
 use Rattle.unit_registry.specs.Projects.{ProjectView, unit_count, name_of, find_unit}
 use Rattle.export_lists.specs.Lists.{Cmi}
@@ -27,14 +27,9 @@ cmi_in (Failed verdict) = None
 abbrev pub Interfaces : Type 0
 Interfaces = ℕ → Option Cmi
 
--- the interface of a unit, where there is one
-abbrev pub interface_at : Option ℕ → Interfaces → Option Cmi
-interface_at None has = None
-interface_at (Some unit) has = has unit
-
 -- the interface of the unit that an import names
 abbrev pub imported_cmi : ProjectView → Interfaces → ImportOf → Option Cmi
-imported_cmi project has import = interface_at (find_unit project import.name) has
+imported_cmi project has import = option_and_then has (find_unit project import.name)
 
 -- an import's interface before those of the rest, or its name
 abbrev pub put_first : Option Cmi → List ℕ → Result (List Cmi) (List ℕ) → Result (List Cmi) (List ℕ)
@@ -74,15 +69,10 @@ at_start (Some (FromSource reading)) = None
 at_start (Some (FromCmi cmi)) = Some (Built cmi)
 at_start None = None
 
--- the interface of an outcome, if there is one
-abbrev pub cmi_of : Option Outcome → Option Cmi
-cmi_of (Some outcome) = cmi_in outcome
-cmi_of None = None
-
 -- the outcome of a unit, where imports are followed to this depth, or none where it isn't compiled by then
 abbrev pub outcome_at : ProjectView → List Origin → ℕ → ℕ → Option Outcome
 outcome_at project origins zero number = at_start (slice_get origins number)
-outcome_at project origins (suc depth) number = step project (λ unit. cmi_of (outcome_at project origins depth unit)) number (slice_get origins number)
+outcome_at project origins (suc depth) number = step project (λ unit. option_and_then cmi_in (outcome_at project origins depth unit)) number (slice_get origins number)
 
 -- the outcome of a unit. No walk along imports is longer than there are units, unless it leads round in a ring
 abbrev pub outcome : ProjectView → List Origin → ℕ → Option Outcome

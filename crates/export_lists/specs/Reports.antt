@@ -19,11 +19,11 @@ failed_line ident (verdicts.Source line reason) =
 failed_line ident (verdicts.Import name) = line_of (codes "failed" ∷ ident ∷ codes "import" ∷ name ∷ [])
 
 -- the lines of a unit with this ident
-abbrev pub unit_lines : List ℕ → Outcome → List ℕ
-unit_lines ident (Compiled cmi) = good_lines (codes "ok") ident cmi.exports
-unit_lines ident (Built cmi) = good_lines (codes "built") ident cmi.exports
-unit_lines ident (Failed verdict) = failed_line ident verdict
+abbrev pub outcome_lines : List ℕ → Outcome → List ℕ
+outcome_lines ident (Compiled cmi) = good_lines (codes "ok") ident cmi.exports
+outcome_lines ident (Built cmi) = good_lines (codes "built") ident cmi.exports
+outcome_lines ident (Failed verdict) = failed_line ident verdict
 
 -- the report: the lines of each unit, in the order of the project
 abbrev pub report : ProjectView → List Outcome → List ℕ
-report project outcomes = flat_map (λ unit. unit_lines unit.0.ident unit.1) (zip project.units outcomes)
+report project outcomes = flat_map (λ unit. outcome_lines unit.0.ident unit.1) (zip project.units outcomes)

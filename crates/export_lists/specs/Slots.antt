@@ -1,12 +1,12 @@
 -- Working definitions of the table of units that are left or over.
-use Rattle.std.specs.Prelude.{◌≡◌, ◌<◌, ◌-◌, ℕ, zero, suc, Bool, true, false, List, [], ◌∷◌, length, map, Option, Some, None, Result, Ok, Err, slice_get, set}
+use Rattle.std.specs.Prelude.{◌≡◌, ◌<◌, ◌-◌, ℕ, zero, suc, Bool, true, false, List, [], ◌∷◌, length, map, Option, Some, None, Result, Ok, Err, slice_get, set, option_and_then}
 use Rattle.module_units.specs.declared.unit.Unit.{Unit as UnitOf}
 use Rattle.module_units.specs.Reading.{SourceReading, Good, Bad}
 use Rattle.unit_registry.specs.Projects.{ProjectView, unit_count, name_of}
 use Rattle.export_lists.specs.Lists.{Cmi}
 use Rattle.export_lists.specs.Compiling.{compiled}
 use Rattle.export_lists.specs.Sources.{Source}
-use Rattle.export_lists.specs.Outcomes.{Origin, FromSource, FromCmi, Interfaces, gathered, as_outcome, cmi_in, cmi_of, outcome_at, outcome, Outcome, Built, Failed}
+use Rattle.export_lists.specs.Outcomes.{Origin, FromSource, FromCmi, Interfaces, gathered, as_outcome, cmi_in, outcome_at, outcome, Outcome, Built, Failed}
 use Rattle.export_lists.specs.Lent.{lent}
 use Rattle.export_lists.specs.Listings.{IsMadeOf}
 use Rattle.export_lists.specs.declared.outcome.Verdict.TheVariants as verdicts
@@ -72,7 +72,7 @@ pub record Within (has more : Interfaces) : Type 0 where
 
 -- the interfaces at a depth
 abbrev pub at_depth : ProjectView → List Origin → ℕ → Interfaces
-at_depth project origins depth unit = cmi_of (outcome_at project origins depth unit)
+at_depth project origins depth unit = option_and_then cmi_in (outcome_at project origins depth unit)
 
 -- a table of the units of a project with these origins: the interfaces in it are there at a depth of as many units as are over
 pub record IsTable (project : ProjectView) (origins : List Origin) (slots : List Slot) : Type 0 where

@@ -1,12 +1,13 @@
 -- What a source reads as in a project: the unit that it is, or its first fault.
-use Rattle.std.specs.Prelude.{◌≡◌, ◌⊎◌, ℕ, Bool, true, false, not, ◌&&◌, List, [], ◌∷◌, ◌++◌, Option, Some, None}
+use Rattle.std.specs.Prelude.{◌≡◌, ◌⊎◌, ℕ, Bool, true, false, not, ◌&&◌, List, [], ◌∷◌, ◌++◌}
 use Rattle.std.specs.Str.{bytes_eq}
 use Rattle.header_units.specs.Octets.{colon}
 use Rattle.module_lexer.specs.declared.reason.SourceReason.{SourceReason}
 use Rattle.module_lexer.specs.declared.reason.SourceReason.TheVariants.{UnitDiffers, ImportInHeader}
 use Rattle.module_units.specs.declared.unit.Unit.{Unit as UnitOf}
 use Rattle.module_units.specs.declared.parts.Import.{Import as ImportOf}
-use Rattle.export_lists.specs.Faults.{Fault, line_if, faults_on}
+use Rattle.module_units.specs.declared.faults.Fault.{Fault}
+use Rattle.module_units.specs.Rules.{fault_if}
 use Rattle.module_units.specs.Reading.{SourceReading, Good, Bad, ReadsUnit, Reads}
 use Rattle.module_units.specs.declared.parts.UnitKind.{UnitKind}
 use Rattle.module_units.specs.declared.parts.UnitKind.TheVariants as units
@@ -54,12 +55,12 @@ abbrev pub header_faults : Kind → List ImportOf → List Fault
 header_faults Module imports = []
 header_faults Plain imports = []
 header_faults Header [] = []
-header_faults Header (import ∷ imports) = faults_on ImportInHeader (import.line ∷ [])
+header_faults Header (import ∷ imports) = record { line = import.line; reason = ImportInHeader } ∷ []
 
 -- the faults of a unit in a project that declares a unit of this kind and name, in the order of the text
 abbrev pub project_faults : Kind → List ℕ → UnitOf → List Fault
 project_faults kind name unit =
-    faults_on UnitDiffers (line_if (not (may_be kind unit.kind && has_name kind name unit)) unit.module_line)
+    fault_if (not (may_be kind unit.kind && has_name kind name unit)) unit.module_line UnitDiffers
     ++ header_faults kind unit.imports
 
 -- the source reads as a unit, and breaks a rule of the project, first on this line for this reason
@@ -83,8 +84,3 @@ Source project number text (Bad line reason) = Reads text (Bad line reason) ⊎ 
 abbrev pub RefusesFor : ProjectView → ℕ → List ℕ → SourceError → Type 0
 RefusesFor project number text (errors.Text line reason) = Source project number text (Bad line reason)
 RefusesFor project number text errors.Memory = Unit {0}
-
--- the first of these faults, as a source's error
-abbrev pub first_told : List Fault → Option SourceError
-first_told [] = None
-first_told (fault ∷ faults) = Some (errors.Text fault.line fault.reason)

@@ -12,7 +12,8 @@ pub enum CmiError {
     /// The first line at fault, counted from 1.
     #[error("not a cmi")]
     Text {
-        /// The line's number, from 1. Where the text ends before `end`, it is one more than the number of lines.
+        /// The line's number, from 1. Where the text ends before `end`, it is one more than the number of its
+        /// NEWLINEs.
         line: u32,
     },
     /// Memory ran out. This may come for any text.

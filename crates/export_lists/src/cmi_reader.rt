@@ -1,8 +1,6 @@
 //! Reading the text of an interface, line by line.
 
-ghost use Rattle.std.specs.Prelude.{◌≡◌, ◌≢◌, ◌≤◌, ◌<◌, ◌∷◌, ◌++◌, length, IfSome, IfNone, IfOk, IfErr};
-ghost use Rattle.std.specs.List.{All};
-ghost use Rattle.cody_words.specs.Octets.{newline};
+ghost use Rattle.std.specs.Prelude.{◌≤◌, length, IfOk, IfErr};
 ghost use Rattle.export_lists.specs.Drafts.{EndsSo};
 ghost use Rattle.export_lists.specs.CmiFaults.{IsCmiText, TellsCmiFault};
 
@@ -10,25 +8,8 @@ use crate::cmi::Cmi;
 use crate::cmi_error::CmiError;
 use crate::distinct::LineError;
 use crate::draft::Draft;
-use memchr::memchr;
 use std::alloc::Global;
-
-/// What stands before the first NEWLINE, and what stands behind it, if there is one.
-fn cut_line(octets: &[u8]) -> Option<(&[u8], &[u8])>
-    ensures none { IfNone result (All (λ octet. octet ≢ newline) octets.now) }
-    ensures front { IfSome result (λ parts. All (λ octet. octet ≢ newline) parts.0.now) }
-    ensures whole { IfSome result (λ parts. octets.now ≡ parts.0.now ++ newline ∷ parts.1.now) }
-    ensures shorter { IfSome result (λ parts. length parts.1.now < length octets.now) }
-{
-    match memchr(b'\n', octets) {
-        Some(place) => {
-            let (line, _) = octets.split_at(place);
-            let (_, behind) = octets.split_at(place + 1);
-            Some((line, behind))
-        }
-        None => None,
-    }
-}
+use unit_registry::cut_at_newline;
 
 /// The interface, where all its lines were read and nothing follows them.
 fn end_draft(draft: Draft, number: u32, rest: &[u8]) -> Result<Cmi, CmiError>
@@ -49,7 +30,7 @@ fn read_cmi(alloc: Global, octets: &[u8]) -> Result<Cmi, CmiError>
     let mut draft = Draft::Start;
     let mut number = 1;
     let mut rest = octets;
-    while let Some((line, behind)) = cut_line(rest) {
+    while let Some((line, behind)) = cut_at_newline(rest) {
         draft = match draft.with_line(alloc, line) {
             Ok(next) => next,
             Err(LineError::Fault) => return Err(CmiError::Text { line: number }),
@@ -67,8 +48,9 @@ impl Cmi {
     /// names as owners, and whose lists have at most 65,536 entries each, no two of a list equal.
     ///
     /// `Text` is the first line at fault, counted from 1: no such text has the same lines up to that one.
-    /// So a text that ends before `end` is at fault on the line after its last, and so is text after
-    /// `end`. `Memory` may come for any text. The text has at most 2,147,483,648 octets.
+    /// So a text that ends before `end` is at fault on the line whose number is one more than that of its
+    /// NEWLINEs, and text after `end` on the line after it. `Memory` may come for any text. The text has
+    /// at most 2,147,483,648 octets.
     pub fn read(alloc: Global, octets: &[u8]) -> Result<Cmi, CmiError>
         requires { length octets.now ≤ 2147483648 }
         ensures cmi { IfOk result (IsCmiText octets.now) }

@@ -219,21 +219,21 @@ fn reads_back(alloc: Global, text: &[u8]) -> bool {
     }
 }
 
-/// The line on which a text is refused, or 0 where it isn't.
-fn refused_on(alloc: Global, text: &[u8]) -> u32 {
+/// The line on which a text is refused, where it is.
+fn refused_on(alloc: Global, text: &[u8]) -> Option<u32> {
     if text.len() > 1000 {
-        return 0;
+        return None;
     }
     match Cmi::read(alloc, text) {
-        Err(CmiError::Text { line }) => line,
-        _ => 0,
+        Err(CmiError::Text { line }) => Some(line),
+        _ => None,
     }
 }
 
 /// The first text that isn't refused on its line, if there is one.
 fn first_wrong(alloc: Global, table: &[Faulty]) -> Option<&'static [u8]> {
     for faulty in table {
-        if refused_on(alloc, faulty.text) != faulty.line {
+        if refused_on(alloc, faulty.text) != Some(faulty.line) {
             return Some(faulty.text);
         }
     }

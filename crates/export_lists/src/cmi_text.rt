@@ -12,7 +12,7 @@ use mm_outside::{Bytes, Memory, Text};
 use std::alloc::Global;
 
 /// The word for whether a unit is an interface.
-fn role_word(interface: bool) -> &'static [u8]
+pub(crate) fn role_word(interface: bool) -> &'static [u8]
     ensures { result.now ≡ role_word interface }
 {
     if interface {

@@ -6,22 +6,19 @@ ghost use Rattle.header_units.specs.Octets.{colon};
 ghost use Rattle.module_units.specs.Rules.{can_export};
 ghost use Rattle.export_lists.specs.Entries.{with_entries, distinct};
 ghost use Rattle.export_lists.specs.Lists.{imported, module_in, is_inside, brings, brought, passes_on, entry_of, own_entries, exports, view};
-ghost use Rattle.export_lists.specs.Compiling.{is_header, is_interface, owner_of, types_in, unknown_lines, is_bad_export, export_lines, is_too_long, compiled, whole, TellsFault};
+ghost use Rattle.export_lists.specs.Compiling.{is_header, own_exports, is_interface, owner_of, types_in, unknown_lines, is_bad_export, export_lines, is_too_long, compiled, whole, TellsFault};
 ghost use Rattle.export_lists.specs.Lent.{lent};
-ghost use Rattle.export_lists.specs.Types.{Knows, first_of};
-ghost use Rattle.module_units.specs.declared.unit.SourceError.TheVariants as errors;
+ghost use Rattle.export_lists.specs.Types.{Knows};
 
 use crate::cmi::Cmi;
 use crate::entries::Entries;
-use crate::listed::Listed;
+use crate::listed::{Listed, MOST_NAMES, Own};
+use crate::source::source_error;
 use crate::types::Types;
 use mm_outside::{List, Memory, Text};
 use module_lexer::SourceReason;
-use module_units::{Decl, Import, SourceError, Unit, UnitKind};
+use module_units::{Fault, Import, SourceError, Unit, UnitKind, can_export};
 use std::alloc::Global;
-
-/// The most names of a list of exports, and of a view.
-const MOST_NAMES: u32 = 65536;
 
 /// How many octets stand before the first colon.
 fn before_colon(name: &[u8]) -> usize
@@ -101,15 +98,15 @@ fn with_passed<'a>(
 /// What a unit exports.
 fn exports_over<'a>(
     alloc: Global,
-    all: bool,
+    own: Own,
     owner: &'a [u8],
     unit: &'a Unit,
     cmis: &[&'a Cmi],
 ) -> Result<List<Listed>, Memory>
     requires { length cmis.now ≡ length unit.now.imports }
-    ensures { IfOk result (λ list. list ≡ exports all owner.now unit.now (lent cmis.now)) }
+    ensures { IfOk result (λ list. list ≡ exports own owner.now unit.now (lent cmis.now)) }
 {
-    let entries = Entries::new(alloc).add_decls(alloc, all, owner, unit.decls.as_slice())?;
+    let entries = Entries::new(alloc).add_decls(alloc, own, owner, unit.decls.as_slice())?;
     let entries = with_passed(alloc, entries, unit, cmis)?;
     Ok(entries.into_list())
 }
@@ -124,7 +121,7 @@ fn view_over<'a>(
     requires { length cmis.now ≡ length unit.now.imports }
     ensures { IfOk result (λ list. list ≡ view owner.now unit.now (lent cmis.now)) }
 {
-    let entries = Entries::new(alloc).add_decls(alloc, true, owner, unit.decls.as_slice())?;
+    let entries = Entries::new(alloc).add_decls(alloc, Own::All, owner, unit.decls.as_slice())?;
     let entries = with_brought(alloc, entries, unit, cmis)?;
     Ok(entries.into_list())
 }
@@ -139,7 +136,7 @@ fn is_bad_export(import: &Import, cmi: &Cmi) -> bool
 /// The line of the first exported import of a unit that is no interface.
 fn first_bad_export(unit: &Unit, cmis: &[&Cmi]) -> Option<u32>
     requires { length cmis.now ≡ length unit.now.imports }
-    ensures { result ≡ first_of (export_lines (imported unit.now (lent cmis.now))) }
+    ensures { result ≡ slice_get (export_lines (imported unit.now (lent cmis.now))) 0 }
 {
     for k in 0..unit.imports.len() {
         let import = unit.imports.get(k);
@@ -166,7 +163,7 @@ fn types_brought<'a>(alloc: Global, unit: &Unit, cmis: &[&'a Cmi]) -> Result<Typ
 /// The line of the first use of a type that is neither declared before nor brought by an import.
 fn first_unknown<'a>(alloc: Global, unit: &'a Unit, cmis: &[&'a Cmi]) -> Result<Option<u32>, Memory>
     requires { length cmis.now ≡ length unit.now.imports }
-    ensures { IfOk result (λ line. line ≡ first_of (unknown_lines (types_in (brought unit.now (lent cmis.now))) unit.now.decls)) }
+    ensures { IfOk result (λ line. line ≡ slice_get (unknown_lines (types_in (brought unit.now (lent cmis.now))) unit.now.decls) 0) }
 {
     let types = types_brought(alloc, unit, cmis)?;
     types.first_undeclared(unit.decls.as_slice())
@@ -182,11 +179,23 @@ fn is_header(kind: UnitKind, name: &[u8]) -> bool
     }
 }
 
+/// Which of its own declarations a unit exports: a header unit all of them, and another those that are
+/// exported.
+fn own_exports(kind: UnitKind, name: &[u8]) -> Own
+    ensures { result ≡ own_exports kind name.now }
+{
+    if is_header(kind, name) {
+        Own::All
+    } else {
+        Own::Exported
+    }
+}
+
 /// Whether a unit is an interface: a module's, a partition's, or a header unit.
 fn is_interface(kind: UnitKind, name: &[u8]) -> bool
     ensures { result ≡ is_interface kind name.now }
 {
-    matches!(kind, UnitKind::Interface | UnitKind::PartitionInterface) || is_header(kind, name)
+    can_export(kind) || is_header(kind, name)
 }
 
 /// The owner of a unit's own declarations: its module, or of one without a module declaration its
@@ -207,13 +216,6 @@ fn is_too_long(list: &List<Listed>) -> bool
     list.len() > MOST_NAMES
 }
 
-/// A fault on a line.
-fn fault(line: u32, reason: SourceReason) -> SourceError
-    ensures { result ≡ errors.Text line reason }
-{
-    SourceError::Text { line, reason }
-}
-
 /// The interface of a unit without faults, unless it has too many names.
 fn interface_over(
     alloc: Global,
@@ -226,10 +228,13 @@ fn interface_over(
     ensures refused { IfErr result (TellsFault (whole name.now unit.now (lent cmis.now))) }
 {
     let owner = owner_of(unit, name);
-    let exports = exports_over(alloc, is_header(unit.kind, name), owner, unit, cmis)?;
+    let exports = exports_over(alloc, own_exports(unit.kind, name), owner, unit, cmis)?;
     let view = view_over(alloc, owner, unit, cmis)?;
     if is_too_long(&view) || is_too_long(&exports) {
-        return Err(fault(1, SourceReason::TooManyNames));
+        return Err(source_error(Fault {
+            line: 1,
+            reason: SourceReason::TooManyNames,
+        }));
     }
     Ok(Cmi {
         unit: Text::of(alloc, name)?,
@@ -251,10 +256,16 @@ pub(crate) fn compile_over(
     ensures refused { IfErr result (TellsFault (compiled name.now unit.now (lent cmis.now))) }
 {
     if let Some(line) = first_bad_export(unit, cmis) {
-        return Err(fault(line, SourceReason::ExportedImplementation));
+        return Err(source_error(Fault {
+            line,
+            reason: SourceReason::ExportedImplementation,
+        }));
     }
     if let Some(line) = first_unknown(alloc, unit, cmis)? {
-        return Err(fault(line, SourceReason::UnknownType));
+        return Err(source_error(Fault {
+            line,
+            reason: SourceReason::UnknownType,
+        }));
     }
     interface_over(alloc, unit, name, cmis)
 }

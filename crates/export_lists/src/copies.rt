@@ -3,12 +3,9 @@
 ghost use Rattle.std.specs.Prelude.{◌≡◌, ◌++◌, ◌∷◌, [], IfOk, OnOk};
 
 use crate::cmi::Cmi;
-use crate::listed::Listed;
+use crate::listed::{Listed, MOST_ENTRIES};
 use mm_outside::{List, Memory, Text};
 use std::alloc::Global;
-
-/// The most entries of a list.
-const MOST_ENTRIES: u32 = 2147483648;
 
 /// A copy of an entry.
 fn copy_entry(alloc: Global, entry: &Listed) -> Result<Listed, Memory>

@@ -10,15 +10,12 @@ ghost use Rattle.export_lists.specs.declared.distinct.LineError.TheVariants as e
 
 use crate::entries::kind_number;
 use crate::grammar::is_good_entry;
-use crate::listed::Listed;
+use crate::listed::{Listed, MOST_NAMES};
 use indexmap::IndexSet;
 use mm_outside::{List, Memory, Text};
 use module_units::DeclKind;
 use std::alloc::Global;
 use std::marker::Model;
-
-/// The most entries of a list.
-const MOST_NAMES: u32 = 65536;
 
 /// Why a line isn't taken.
 #[derive(Clone, Copy, Debug, PartialEq, Eq)]

@@ -4,15 +4,32 @@ ghost use Rattle.std.specs.Prelude.{◌≡◌, ◌++◌, ◌∷◌, [], length, 
 ghost use Rattle.std.specs.Str.{bytes_eq};
 ghost use Rattle.cody_words.specs.Octets.{newline};
 ghost use Rattle.export_lists.specs.Words.{line_of};
-ghost use Rattle.export_lists.specs.Drafts.{word_at, is_word, kind_in, role_in, headed, with_role, begun, with_entry_line, with_kind, lists_next, next, Takes, ReadsWords, TakesLine};
+ghost use Rattle.mapper_requests.specs.Requests.{word_at};
+ghost use Rattle.unit_registry.specs.Lines.{is_word};
+ghost use Rattle.export_lists.specs.Drafts.{kind_in, role_in, headed, with_role, begun, with_entry_line, with_kind, lists_next, next, Takes, ReadsWords, TakesLine};
 
 use crate::cmi::Cmi;
+use crate::cmi_text::role_word;
 use crate::distinct::{Distinct, LineError};
 use crate::grammar::is_name;
+use crate::words::kind_word;
 use cody_words::{LexError, Line, LineBuf, Words, lex_line, write_line};
+use mapper_requests::word_or_empty;
 use mm_outside::{Memory, Text};
 use module_units::DeclKind;
 use std::alloc::Global;
+
+/// The kinds of declarations.
+const KINDS: [DeclKind; 5] = [
+    DeclKind::Struct,
+    DeclKind::Class,
+    DeclKind::Alias,
+    DeclKind::Variable,
+    DeclKind::Function,
+];
+
+/// Whether a unit is an interface, or isn't.
+const ROLES: [bool; 2] = [true, false];
 
 /// The lists of an interface so far.
 #[derive(Drop)]
@@ -36,22 +53,11 @@ pub(crate) enum Draft {
     Over { cmi: Cmi },
 }
 
-/// The word at the place, or nothing where there is none.
-fn word_at(words: &Words, place: u32) -> &[u8]
-    ensures { result.now ≡ word_at words.now place }
-{
-    if place < words.len() {
-        words.word(place)
-    } else {
-        b""
-    }
-}
-
 /// Whether the word at the place is this one.
 fn is_word(words: &Words, place: u32, word: &[u8]) -> bool
     ensures { result ≡ is_word words.now place word.now }
 {
-    word_at(words, place) == word
+    word_or_empty(words, place) == word
 }
 
 /// Whether the words are the same.
@@ -65,32 +71,17 @@ fn is_same_word(word: &[u8], other: &[u8]) -> bool
 fn kind_in(word: &[u8]) -> Option<DeclKind>
     ensures { result ≡ kind_in word.now }
 {
-    if is_same_word(word, b"struct") {
-        Some(DeclKind::Struct)
-    } else if is_same_word(word, b"class") {
-        Some(DeclKind::Class)
-    } else if is_same_word(word, b"alias") {
-        Some(DeclKind::Alias)
-    } else if is_same_word(word, b"variable") {
-        Some(DeclKind::Variable)
-    } else if is_same_word(word, b"function") {
-        Some(DeclKind::Function)
-    } else {
-        None
-    }
+    KINDS.iter().copied().find(|kind| word == kind_word(*kind))
 }
 
 /// Whether a unit is an interface, by the word for it.
 fn role_in(word: &[u8]) -> Option<bool>
     ensures { result ≡ role_in word.now }
 {
-    if is_same_word(word, b"interface") {
-        Some(true)
-    } else if is_same_word(word, b"implementation") {
-        Some(false)
-    } else {
-        None
-    }
+    ROLES
+        .iter()
+        .copied()
+        .find(|interface| word == role_word(*interface))
 }
 
 /// The draft behind the first line.
@@ -126,7 +117,11 @@ fn begun(alloc: Global, words: &Words) -> Result<Draft, LineError>
     ensures { Takes (begun words.now) result }
 {
     if words.len() == 3 && is_word(words, 0, b"unit") {
-        with_role(alloc, word_at(words, 1), role_in(word_at(words, 2)))
+        with_role(
+            alloc,
+            word_or_empty(words, 1),
+            role_in(word_or_empty(words, 2)),
+        )
     } else {
         Err(LineError::Fault)
     }
@@ -216,13 +211,13 @@ impl Lists {
     fn with_kind(self, alloc: Global, words: &Words) -> Result<Draft, LineError>
         ensures { Takes (with_kind self (word_at words.now 0) (kind_in (word_at words.now 1)) (word_at words.now 2) (word_at words.now 3)) result }
     {
-        match kind_in(word_at(words, 1)) {
+        match kind_in(word_or_empty(words, 1)) {
             Some(kind) => self.with_entry(
                 alloc,
-                word_at(words, 0),
+                word_or_empty(words, 0),
                 kind,
-                word_at(words, 2),
-                word_at(words, 3),
+                word_or_empty(words, 2),
+                word_or_empty(words, 3),
             ),
             None => Err(LineError::Fault),
         }

@@ -2,17 +2,14 @@
 
 ghost use Rattle.std.specs.Prelude.{◌≡◌, [], map, OnOk, IfOk};
 ghost use Rattle.export_lists.specs.Entries.{kind_number, with_entry, with_entries};
-ghost use Rattle.export_lists.specs.Lists.{own_entries};
+ghost use Rattle.export_lists.specs.Lists.{is_taken, own_entries};
 
-use crate::listed::Listed;
+use crate::listed::{Listed, MOST_ENTRIES, Own};
 use indexmap::IndexSet;
 use mm_outside::{List, Memory, Text};
 use module_units::{Decl, DeclKind};
 use std::alloc::Global;
 use std::marker::Model;
-
-/// The most entries of a list.
-const MOST_ENTRIES: u32 = 2147483648;
 
 /// What tells entries apart.
 #[derive(Clone, Copy, PartialEq, Eq, Hash, Drop)]
@@ -51,6 +48,16 @@ pub(crate) fn kind_number(kind: DeclKind) -> u8
         DeclKind::Alias => 2,
         DeclKind::Variable => 3,
         DeclKind::Function => 4,
+    }
+}
+
+/// Whether a list takes a declaration of its unit.
+fn is_taken(own: Own, decl: &Decl) -> bool
+    ensures { result ≡ is_taken own decl.now }
+{
+    match own {
+        Own::All => true,
+        Own::Exported => decl.exported,
     }
 }
 
@@ -105,19 +112,19 @@ impl<'a> Entries<'a> {
         Ok(entries)
     }
 
-    /// Adds declarations of an owner, all or the exported ones, each unless an equal entry is there.
+    /// Adds the declarations of an owner that are taken, each unless an equal entry is there.
     pub(crate) fn add_decls(
         self,
         alloc: Global,
-        all: bool,
+        own: Own,
         owner: &'a [u8],
         decls: &'a [Decl],
     ) -> Result<Entries<'a>, Memory>
-        ensures { IfOk result (λ entries. entries ≡ with_entries self.entry (own_entries all owner.now decls.now)) }
+        ensures { IfOk result (λ entries. entries ≡ with_entries self.entry (own_entries own owner.now decls.now)) }
     {
         let mut entries = self;
         for decl in decls {
-            if all || decl.exported {
+            if is_taken(own, decl) {
                 entries = entries.add(alloc, decl.kind, decl.name.octets(), owner)?;
             }
         }

@@ -2,7 +2,7 @@
 
 ghost use Rattle.std.specs.Prelude.{◌≡◌, ◌≤◌, ◌++◌, ◌∷◌, [], codes, flat_map, IfOk, OnOk};
 ghost use Rattle.export_lists.specs.Words.{line_of};
-ghost use Rattle.export_lists.specs.Generated.{numbered, export_word, import_line, further_parameters, parameters, ended, head_of, struct_of, function_of, source_of, sources_of, unit_line, unit_lines, project_text, generated};
+ghost use Rattle.export_lists.specs.Generated.{numbered, export_word, import_line, further_parameters, parameters, ended, head_of, struct_of, function_of, source_of, sources_of, source_path, module_line, module_lines, project_text, generated};
 
 use crate::draws::{Link, draw_links};
 use crate::lines::{append_line, append_three, append_two, digits_of};
@@ -153,7 +153,7 @@ fn joined(alloc: Global, folder: &[u8], letters: &[u8]) -> Result<Text, Memory>
 
 /// The path of the source of a unit.
 fn path_of(alloc: Global, folder: &[u8], number: u32) -> Result<Text, Memory>
-    ensures { IfOk result (λ path. path ≡ folder.now ++ (numbered (codes "/u") number ++ codes ".cc")) }
+    ensures { IfOk result (λ path. path ≡ source_path folder.now number) }
 {
     let mut path = Text::of(alloc, folder)?;
     append_numbered(alloc, b"/u", number, &mut path)?;
@@ -163,7 +163,7 @@ fn path_of(alloc: Global, folder: &[u8], number: u32) -> Result<Text, Memory>
 
 /// Appends the line of a unit in the project file.
 fn append_unit(alloc: Global, folder: &[u8], number: u32, text: &mut Text) -> Result<(), Memory>
-    ensures { OnOk result (text.new ≡ text.old ++ unit_line folder.now number) }
+    ensures { OnOk result (text.new ≡ text.old ++ module_line folder.now number) }
 {
     let mut name = Text::new(alloc);
     append_numbered(alloc, b"g", number, &mut name)?;
@@ -173,7 +173,7 @@ fn append_unit(alloc: Global, folder: &[u8], number: u32, text: &mut Text) -> Re
 
 /// Appends the lines of so many units.
 fn append_units(alloc: Global, folder: &[u8], units: u32, text: &mut Text) -> Result<(), Memory>
-    ensures { OnOk result (text.new ≡ text.old ++ unit_lines folder.now units) }
+    ensures { OnOk result (text.new ≡ text.old ++ module_lines folder.now units) }
 {
     for number in 0..units {
         append_unit(alloc, folder, number, text)?;

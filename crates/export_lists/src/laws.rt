@@ -1,13 +1,15 @@
 //! Laws of sources, of the text of an interface and of listings, as the contracts of functions that do nothing.
 
-ghost use Rattle.std.specs.Prelude.{◌≡◌, ℕ, List};
+ghost use Rattle.std.specs.Prelude.{◌≡◌, ℕ, List, None, option_and_then};
+ghost use Rattle.std.specs.List.{Contains};
 ghost use Rattle.module_units.specs.Reading.{SourceReading};
 ghost use Rattle.unit_registry.specs.Projects.{ProjectView};
 ghost use Rattle.export_lists.specs.Lists.{Cmi};
 ghost use Rattle.export_lists.specs.Sources.{Source};
 ghost use Rattle.export_lists.specs.CmiTexts.{cmi_text, IsGoodCmi};
 ghost use Rattle.export_lists.specs.CmiFaults.{IsCmiText, IsFaultyLine};
-ghost use Rattle.export_lists.specs.Outcomes.{Outcome};
+ghost use Rattle.export_lists.specs.Outcomes.{Origin, Outcome, cmi_in, outcome};
+ghost use Rattle.export_lists.specs.Rings.{LeadRound};
 ghost use Rattle.export_lists.specs.Listings.{IsListing};
 
 /// A source has one reading in a project: one unit, or else one fault.
@@ -38,4 +40,10 @@ pub fn written_cmi_is_read()
 pub fn one_listing()
     ensures { (project : ProjectView) (sources : List (List ℕ)) (built : List Cmi) (outcomes others : List Outcome)
         → IsListing project sources built outcomes → IsListing project sources built others → outcomes ≡ others }
+{}
+
+/// Units whose imports lead round in a ring, each of which imports one of them, have no interface.
+pub fn rings_have_no_interface()
+    ensures { (project : ProjectView) (origins : List Origin) (units : List ℕ) (unit : ℕ)
+        → LeadRound project origins units → Contains units unit → option_and_then cmi_in (outcome project origins unit) ≡ None }
 {}

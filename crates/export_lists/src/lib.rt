@@ -46,7 +46,9 @@ pub use cmi::Cmi;
 pub use cmi_error::CmiError;
 pub use compile::{compile_unit, view_of};
 pub use generated::{Generated, generate};
-pub use laws::{one_cmi_reading, one_listing, one_source, written_cmi_is_read};
+pub use laws::{
+    one_cmi_reading, one_listing, one_source, rings_have_no_interface, written_cmi_is_read,
+};
 pub use listed::Listed;
 pub use listing::{Listing, list_project};
 pub use outcome::{Outcome, Verdict};

@@ -5,7 +5,7 @@ use crate::lines::digits_of;
 use mm_outside::{List, Text};
 use module_lexer::SourceReason;
 use module_units::DeclKind::Variable;
-use module_units::{SourceError, Unit};
+use module_units::{Fault, SourceError, Unit};
 use std::alloc::Global;
 use std::test::*;
 
@@ -24,13 +24,6 @@ struct Row {
     names: u32,
     /// The first fault.
     fault: Option<Fault>,
-}
-
-/// The line of a fault, and its reason.
-#[derive(Clone, Copy)]
-struct Fault {
-    line: u32,
-    reason: SourceReason,
 }
 
 /// A list of exports and a view at the limit, and past it, together and each alone.
@@ -140,15 +133,24 @@ fn is_right(alloc: Global, row: &Row) -> Option<bool> {
     comes_to(alloc, &unit, &cmis, row.fault)
 }
 
-/// The line on which the text of an interface with so many names is refused, or 0 where it isn't.
-fn refused_on(alloc: Global, exported: u32, seen: u32) -> Option<u32> {
+/// What reading a text comes to.
+#[derive(Clone, Copy, Debug, PartialEq, Eq)]
+enum Answer {
+    /// It is read.
+    Read,
+    /// It is refused on this line.
+    RefusedOn(u32),
+}
+
+/// What reading the text of an interface with so many names comes to.
+fn read_wide(alloc: Global, exported: u32, seen: u32) -> Option<Answer> {
     let text = wide(alloc, exported, seen)?.write(alloc).ok()?;
     if text.octets().len() > 100_000_000 {
         return None;
     }
     match Cmi::read(alloc, text.octets()) {
-        Ok(_) => Some(0),
-        Err(CmiError::Text { line }) => Some(line),
+        Ok(_) => Some(Answer::Read),
+        Err(CmiError::Text { line }) => Some(Answer::RefusedOn(line)),
         Err(CmiError::Memory) => None,
     }
 }
@@ -166,7 +168,13 @@ fn units_with_many_names(rt: HostRuntime) {
 
 #[test]
 fn texts_with_many_names(rt: HostRuntime) {
-    assert_eq!(rt; refused_on(rt.alloc(), MOST, MOST), Some(0));
-    assert_eq!(rt; refused_on(rt.alloc(), TOO_MANY, 0), Some(65_539));
-    assert_eq!(rt; refused_on(rt.alloc(), 1, TOO_MANY), Some(65_540));
+    assert_eq!(rt; read_wide(rt.alloc(), MOST, MOST), Some(Answer::Read));
+    assert_eq!(rt;
+        read_wide(rt.alloc(), TOO_MANY, 0),
+        Some(Answer::RefusedOn(65_539))
+    );
+    assert_eq!(rt;
+        read_wide(rt.alloc(), 1, TOO_MANY),
+        Some(Answer::RefusedOn(65_540))
+    );
 }

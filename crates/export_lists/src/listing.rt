@@ -1,10 +1,11 @@
 //! The outcomes of a project's units, and the report on them.
 
-ghost use Rattle.std.specs.Prelude.{◌≡◌, ◌<◌, ◌++◌, ◌∷◌, [], Some, length, slice_get, codes, IfOk, OnOk};
+ghost use Rattle.std.specs.Prelude.{◌≡◌, ◌<◌, ◌≤◌, ◌++◌, ◌∷◌, [], Some, length, slice_get, codes, IfOk, OnOk};
+ghost use Rattle.std.specs.List.{All};
 ghost use Rattle.unit_registry.specs.Projects.{unit_count};
 ghost use Rattle.export_lists.specs.Listings.{built_count, IsListing};
 ghost use Rattle.export_lists.specs.Words.{line_of};
-ghost use Rattle.export_lists.specs.Reports.{good_lines, failed_line, unit_lines, report};
+ghost use Rattle.export_lists.specs.Reports.{good_lines, failed_line, outcome_lines, report};
 ghost use Rattle.export_lists.specs.declared.outcome.Verdict.TheVariants as verdicts;
 
 use crate::cmi::Cmi;
@@ -111,7 +112,7 @@ fn append_outcome(
     outcome: &Outcome,
     text: &mut Text,
 ) -> Result<(), Memory>
-    ensures { OnOk result (text.new ≡ text.old ++ unit_lines ident.now outcome.now) }
+    ensures { OnOk result (text.new ≡ text.old ++ outcome_lines ident.now outcome.now) }
 {
     match outcome {
         Outcome::Compiled(cmi) => append_good(alloc, b"ok", ident, &cmi.exports, text),
@@ -158,7 +159,7 @@ impl Listing {
 /// unit that was built before, in the order of the project, its interface. A unit fails for the first
 /// fault of its source, then for the first import whose unit isn't declared or has no interface, and
 /// then for the first fault over the interfaces of its imports. Units whose imports lead round in a
-/// ring have none. `Memory` may come for any project.
+/// ring have none. A source has at most 2,147,483,648 octets. `Memory` may come for any project.
 pub fn list_project(
     alloc: Global,
     project: &Project,
@@ -166,6 +167,7 @@ pub fn list_project(
     built: &[Cmi],
 ) -> Result<Listing, Memory>
     requires sources { length sources.now ≡ unit_count project.now }
+    requires short { All (λ text. length text ≤ 2147483648) sources.now }
     requires built { length built.now ≡ built_count project.now }
     ensures { IfOk result (IsListing project.now sources.now built.now) }
 {

@@ -1,6 +1,7 @@
 //! The outcomes of whole projects, and the reports on them.
 
-ghost use Rattle.std.specs.Prelude.{◌≡◌, length, IfSome};
+ghost use Rattle.std.specs.Prelude.{◌≡◌, length, nat_le, IfSome};
+ghost use Rattle.std.specs.List.{list_all};
 ghost use Rattle.unit_registry.specs.Projects.{unit_count};
 
 use super::*;
@@ -314,12 +315,24 @@ fn texts(alloc: Global, sources: &[&[u8]]) -> Option<Vec<Text>> {
     Some(texts)
 }
 
+/// Whether each of the texts is short enough for a source.
+fn are_short(texts: &[Text]) -> bool
+    ensures { result ≡ list_all (λ text. nat_le (length text) 2147483648) texts.now }
+{
+    texts
+        .iter()
+        .all(|text| text.octets().len() <= 2_147_483_648)
+}
+
 /// The listing of a project with these sources.
 fn listed(alloc: Global, project: &Project, sources: &[&[u8]], built: &[Cmi]) -> Option<Listing>
     ensures { IfSome result (λ listing. length listing ≡ unit_count project.now) }
 {
     let texts = texts(alloc, sources)?;
     if texts.len() != project.unit_count() as usize {
+        return None;
+    }
+    if !are_short(&texts) {
         return None;
     }
     if built.len() != built_count(project) as usize {

@@ -7,7 +7,8 @@ use module_lexer::SourceReason;
 /// Why a unit wasn't compiled.
 #[derive(Debug, Drop)]
 pub enum Verdict {
-    /// Its source's first fault, and the line, counted from 1.
+    /// The first fault of its source, or of its unit over the interfaces of its imports, and the line,
+    /// counted from 1.
     Source { line: u32, reason: SourceReason },
     /// The first of its imports whose unit isn't declared or wasn't compiled.
     Import { name: Text },

@@ -1,6 +1,7 @@
 //! The table of a project's units, each of which is left or over.
 
-ghost use Rattle.std.specs.Prelude.{◌≡◌, ◌<◌, ◌≤◌, length, filter_map, cond, IfOk};
+ghost use Rattle.std.specs.Prelude.{◌≡◌, ◌<◌, ◌≤◌, length, filter_map, IfOk};
+ghost use Rattle.std.specs.List.{All};
 ghost use Rattle.unit_registry.specs.Projects.{unit_count, is_built};
 ghost use Rattle.export_lists.specs.Listings.{built_count, built_before};
 ghost use Rattle.export_lists.specs.Slots.{outcome_in, IsFirstSlot, IsSourceSlot, AreFirstSlots};
@@ -14,18 +15,8 @@ use module_units::{SourceError, Unit};
 use std::alloc::Global;
 use unit_registry::Project;
 
-/// The most octets of a source. Where one is longer, there is no memory for its tokens.
-const LONGEST_SOURCE: usize = 2_147_483_648;
-
 /// The most outcomes of a list.
 const MOST_OUTCOMES: usize = 2_147_483_648;
-
-/// One for a unit that was built before, and none for another.
-fn one_if(built: bool) -> u32
-    ensures { result ≡ cond built 1 0 }
-{
-    if built { 1 } else { 0 }
-}
 
 /// How many units of the project were built before.
 pub fn built_count(project: &Project) -> u32
@@ -33,7 +24,7 @@ pub fn built_count(project: &Project) -> u32
 {
     let mut count: u32 = 0;
     for number in 0..project.unit_count() {
-        count += one_if(project.is_built(number));
+        count += u32::from(project.is_built(number));
     }
     count
 }
@@ -49,12 +40,10 @@ pub(crate) enum Slot {
 
 /// The slot of a unit with this source, before any round.
 fn source_slot(alloc: Global, project: &Project, number: u32, text: &[u8]) -> Result<Slot, Memory>
-    requires { number < unit_count project.now }
+    requires number { number < unit_count project.now }
+    requires short { length text.now ≤ 2147483648 }
     ensures { IfOk result (IsSourceSlot project.now number text.now) }
 {
-    if text.len() > LONGEST_SOURCE {
-        return Err(Memory);
-    }
     match unit_for(alloc, project, number, text) {
         Ok(unit) => Ok(Slot::Left(unit)),
         Err(SourceError::Text { line, reason }) => {
@@ -75,6 +64,7 @@ fn first_slot(
 ) -> Result<Slot, Memory>
     requires number { number < unit_count project.now }
     requires sources { length sources.now ≡ unit_count project.now }
+    requires short { All (λ text. length text ≤ 2147483648) sources.now }
     requires built { length built.now ≡ built_count project.now }
     requires place { place ≡ built_before project.now number }
     ensures { IfOk result (IsFirstSlot project.now sources.now built.now number) }
@@ -94,6 +84,7 @@ pub(crate) fn first_slots(
     built: &[Cmi],
 ) -> Result<Vec<Slot>, Memory>
     requires sources { length sources.now ≡ unit_count project.now }
+    requires short { All (λ text. length text ≤ 2147483648) sources.now }
     requires built { length built.now ≡ built_count project.now }
     ensures { IfOk result (λ slots. AreFirstSlots project.now sources.now built.now (unit_count project.now) slots.items) }
 {
@@ -102,7 +93,7 @@ pub(crate) fn first_slots(
     for number in 0..project.unit_count() {
         let slot = first_slot(alloc, project, sources, built, number, place)?;
         slots.push(slot)?;
-        place += one_if(project.is_built(number));
+        place += u32::from(project.is_built(number));
     }
     Ok(slots)
 }

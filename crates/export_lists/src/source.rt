@@ -2,12 +2,14 @@
 
 ghost use Rattle.std.specs.Prelude.{◌≡◌, ◌<◌, ◌≤◌, ◌&&◌, length, IfOk, IfErr};
 ghost use Rattle.std.specs.Str.{bytes_eq};
+ghost use Rattle.module_units.specs.FaultRuns.{first_fault};
+ghost use Rattle.module_units.specs.declared.unit.SourceError.TheVariants as errors;
 ghost use Rattle.unit_registry.specs.Projects.{unit_count};
-ghost use Rattle.export_lists.specs.Sources.{unit_name, may_be, has_name, header_faults, project_faults, first_told, IsUnitFor, RefusesFor};
+ghost use Rattle.export_lists.specs.Sources.{unit_name, may_be, has_name, header_faults, project_faults, IsUnitFor, RefusesFor};
 
 use mm_outside::{Memory, Text};
 use module_lexer::SourceReason;
-use module_units::{SourceError, Unit, UnitKind};
+use module_units::{Fault, SourceError, Unit, UnitKind};
 use std::alloc::Global;
 use unit_registry::{Kind, Project};
 
@@ -50,11 +52,11 @@ fn has_name(alloc: Global, declared: Kind, name: &[u8], unit: &Unit) -> Result<b
 }
 
 /// The fault of the first import of a header unit.
-fn header_fault(declared: Kind, unit: &Unit) -> Option<SourceError>
-    ensures { result ≡ first_told (header_faults declared unit.now.imports) }
+fn header_fault(declared: Kind, unit: &Unit) -> Option<Fault>
+    ensures { result ≡ first_fault (header_faults declared unit.now.imports) }
 {
     match (declared, unit.imports.as_slice()) {
-        (Kind::Header, [import, ..]) => Some(SourceError::Text {
+        (Kind::Header, [import, ..]) => Some(Fault {
             line: import.line,
             reason: SourceReason::ImportInHeader,
         }),
@@ -68,17 +70,27 @@ fn project_fault(
     declared: Kind,
     name: &[u8],
     unit: &Unit,
-) -> Result<Option<SourceError>, Memory>
-    ensures { IfOk result (λ fault. fault ≡ first_told (project_faults declared name.now unit.now)) }
+) -> Result<Option<Fault>, Memory>
+    ensures { IfOk result (λ fault. fault ≡ first_fault (project_faults declared name.now unit.now)) }
 {
     let named = has_name(alloc, declared, name, unit)?;
     if may_be(declared, unit.kind) && named {
         return Ok(header_fault(declared, unit));
     }
-    Ok(Some(SourceError::Text {
+    Ok(Some(Fault {
         line: unit.module_line,
         reason: SourceReason::UnitDiffers,
     }))
+}
+
+/// The error of a source with this first fault.
+pub(crate) fn source_error(fault: Fault) -> SourceError
+    ensures { result ≡ errors.Text fault.line fault.reason }
+{
+    SourceError::Text {
+        line: fault.line,
+        reason: fault.reason,
+    }
 }
 
 /// The unit that the source of a unit of the project is, or the source's first fault.
@@ -101,7 +113,7 @@ pub fn unit_for(
 {
     let found = Unit::read(alloc, text)?;
     match project_fault(alloc, project.kind(unit), project.name(unit), &found)? {
-        Some(fault) => Err(fault),
+        Some(fault) => Err(source_error(fault)),
         None => Ok(found),
     }
 }

@@ -35,32 +35,113 @@ const N: &[u8] = b"export module n; export import m; export using N = P;";
 
 const MI: &[u8] = b"module m; Q helper(Hidden);";
 
-/// An entry of a test: its kind, its name and its owner.
-type Row = (DeclKind, &'static [u8], &'static [u8]);
+/// An entry of a test.
+#[derive(Clone, Copy)]
+struct Row {
+    kind: DeclKind,
+    name: &'static [u8],
+    owner: &'static [u8],
+}
 
-const M_EXPORTS: [Row; 2] = [(Function, b"make", b"m"), (Struct, b"P", b"m")];
+/// A source of a test, for the unit of this number, and how it is refused.
+#[derive(Clone, Copy)]
+struct Refused {
+    number: u32,
+    source: &'static [u8],
+    line: u32,
+    reason: SourceReason,
+}
+
+const M_EXPORTS: [Row; 2] = [
+    Row {
+        kind: Function,
+        name: b"make",
+        owner: b"m",
+    },
+    Row {
+        kind: Struct,
+        name: b"P",
+        owner: b"m",
+    },
+];
 
 const M_VIEW: [Row; 5] = [
-    (Function, b"make", b"m"),
-    (Struct, b"P", b"m"),
-    (Struct, b"Hidden", b"m"),
-    (Struct, b"Q", b"m"),
-    (Struct, b"H", b"./h.h"),
+    Row {
+        kind: Function,
+        name: b"make",
+        owner: b"m",
+    },
+    Row {
+        kind: Struct,
+        name: b"P",
+        owner: b"m",
+    },
+    Row {
+        kind: Struct,
+        name: b"Hidden",
+        owner: b"m",
+    },
+    Row {
+        kind: Struct,
+        name: b"Q",
+        owner: b"m",
+    },
+    Row {
+        kind: Struct,
+        name: b"H",
+        owner: b"./h.h",
+    },
 ];
 
 const N_LISTS: [Row; 3] = [
-    (Alias, b"N", b"n"),
-    (Function, b"make", b"m"),
-    (Struct, b"P", b"m"),
+    Row {
+        kind: Alias,
+        name: b"N",
+        owner: b"n",
+    },
+    Row {
+        kind: Function,
+        name: b"make",
+        owner: b"m",
+    },
+    Row {
+        kind: Struct,
+        name: b"P",
+        owner: b"m",
+    },
 ];
 
 const MI_VIEW: [Row; 6] = [
-    (Function, b"helper", b"m"),
-    (Function, b"make", b"m"),
-    (Struct, b"P", b"m"),
-    (Struct, b"Hidden", b"m"),
-    (Struct, b"Q", b"m"),
-    (Struct, b"H", b"./h.h"),
+    Row {
+        kind: Function,
+        name: b"helper",
+        owner: b"m",
+    },
+    Row {
+        kind: Function,
+        name: b"make",
+        owner: b"m",
+    },
+    Row {
+        kind: Struct,
+        name: b"P",
+        owner: b"m",
+    },
+    Row {
+        kind: Struct,
+        name: b"Hidden",
+        owner: b"m",
+    },
+    Row {
+        kind: Struct,
+        name: b"Q",
+        owner: b"m",
+    },
+    Row {
+        kind: Struct,
+        name: b"H",
+        owner: b"./h.h",
+    },
 ];
 
 /// Whether the list has these entries.
@@ -70,8 +151,11 @@ fn has_rows(list: &List<Listed>, rows: &[Row]) -> bool {
     }
     for k in 0..list.len() {
         let entry = list.get(k);
-        let (kind, name, owner) = rows[k as usize];
-        if entry.kind != kind || entry.name.octets() != name || entry.owner.octets() != owner {
+        let row = rows[k as usize];
+        if entry.kind != row.kind
+            || entry.name.octets() != row.name
+            || entry.owner.octets() != row.owner
+        {
             return false;
         }
     }
@@ -170,9 +254,26 @@ fn parts_are_right(alloc: Global) -> Option<bool> {
     let cmis = parts(alloc, &project)?;
     match cmis.as_slice() {
         [p, q, h] => Some(
-            exports(p, b"m:p", true, &[(Struct, b"P", b"m")])
-                && exports(q, b"m:q", false, &[])
-                && exports(h, b"./h.h", true, &[(Struct, b"H", b"./h.h")]),
+            exports(
+                p,
+                b"m:p",
+                true,
+                &[Row {
+                    kind: Struct,
+                    name: b"P",
+                    owner: b"m",
+                }],
+            ) && exports(q, b"m:q", false, &[])
+                && exports(
+                    h,
+                    b"./h.h",
+                    true,
+                    &[Row {
+                        kind: Struct,
+                        name: b"H",
+                        owner: b"./h.h",
+                    }],
+                ),
         ),
         _ => None,
     }
@@ -280,28 +381,26 @@ fn is_refused(made: Result<Cmi, SourceError>, line: u32, reason: SourceReason) -
     }
 }
 
-/// Whether sources are refused on their lines, for their reasons.
-fn refuses_source(
-    alloc: Global,
-    number: u32,
-    source: &[u8],
-    line: u32,
-    reason: SourceReason,
-) -> bool {
+/// Whether a source without imports is refused so.
+fn refuses_source(alloc: Global, refused: Refused) -> bool {
     match project(alloc) {
-        Some(project) => is_refused(compiled(alloc, &project, number, source, &[]), line, reason),
+        Some(project) => is_refused(
+            compiled(alloc, &project, refused.number, refused.source, &[]),
+            refused.line,
+            refused.reason,
+        ),
         None => false,
     }
 }
 
-/// Whether a source of the first unit over that of the second partition is refused.
-fn refuses_over(alloc: Global, source: &[u8], line: u32, reason: SourceReason) -> Option<bool> {
+/// Whether a source over the interface of the second partition is refused so.
+fn refuses_over(alloc: Global, refused: Refused) -> Option<bool> {
     let project = project(alloc)?;
     let q = compiled(alloc, &project, 2, Q, &[]).ok()?;
     let mut cmis = Vec::new(alloc);
     cmis.push(q).ok()?;
-    let made = compiled(alloc, &project, 0, source, &cmis);
-    Some(is_refused(made, line, reason))
+    let made = compiled(alloc, &project, refused.number, refused.source, &cmis);
+    Some(is_refused(made, refused.line, refused.reason))
 }
 
 #[test]
@@ -324,67 +423,129 @@ fn a_generated_project(rt: HostRuntime) {
     assert!(rt; generates(rt.alloc()));
 }
 
+/// Sources that differ from the project, or are at fault before that.
+const AGAINST: [Refused; 10] = [
+    Refused {
+        number: 0,
+        source: b"export module n;",
+        line: 1,
+        reason: SourceReason::UnitDiffers,
+    },
+    Refused {
+        number: 0,
+        source: b"\nmodule m;",
+        line: 2,
+        reason: SourceReason::UnitDiffers,
+    },
+    Refused {
+        number: 0,
+        source: b"",
+        line: 1,
+        reason: SourceReason::UnitDiffers,
+    },
+    Refused {
+        number: 1,
+        source: b"export module m;",
+        line: 1,
+        reason: SourceReason::UnitDiffers,
+    },
+    Refused {
+        number: 2,
+        source: b"module m:q; int",
+        line: 1,
+        reason: SourceReason::Syntax,
+    },
+    Refused {
+        number: 3,
+        source: b"\nexport module h;",
+        line: 2,
+        reason: SourceReason::UnitDiffers,
+    },
+    Refused {
+        number: 3,
+        source: b"\nimport a;\nimport b;",
+        line: 2,
+        reason: SourceReason::ImportInHeader,
+    },
+    Refused {
+        number: 3,
+        source: b"\nmodule h;\nimport a;",
+        line: 2,
+        reason: SourceReason::UnitDiffers,
+    },
+    Refused {
+        number: 5,
+        source: b"export module m;",
+        line: 1,
+        reason: SourceReason::UnitDiffers,
+    },
+    Refused {
+        number: 5,
+        source: b"int",
+        line: 1,
+        reason: SourceReason::Syntax,
+    },
+];
+
+/// Units without imports that use unknown types.
+const ALONE: [Refused; 3] = [
+    Refused {
+        number: 5,
+        source: b"int x; T y;",
+        line: 1,
+        reason: SourceReason::UnknownType,
+    },
+    Refused {
+        number: 5,
+        source: b"struct T;\nvoid f(T, U);\nV v;",
+        line: 2,
+        reason: SourceReason::UnknownType,
+    },
+    Refused {
+        number: 5,
+        source: b"int T;\nT y;",
+        line: 2,
+        reason: SourceReason::UnknownType,
+    },
+];
+
+/// Units over the second partition.
+const OVER: [Refused; 2] = [
+    Refused {
+        number: 0,
+        source: b"export module m;\nexport import :q;\nT y;",
+        line: 2,
+        reason: SourceReason::ExportedImplementation,
+    },
+    Refused {
+        number: 0,
+        source: b"export module m;\nimport :q;\nP y;",
+        line: 3,
+        reason: SourceReason::UnknownType,
+    },
+];
+
 #[test]
 fn sources_against_the_project(rt: HostRuntime) {
-    let table: [(u32, &[u8], u32, SourceReason); 10] = [
-        (0, b"export module n;", 1, SourceReason::UnitDiffers),
-        (0, b"\nmodule m;", 2, SourceReason::UnitDiffers),
-        (0, b"", 1, SourceReason::UnitDiffers),
-        (1, b"export module m;", 1, SourceReason::UnitDiffers),
-        (2, b"module m:q; int", 1, SourceReason::Syntax),
-        (3, b"\nexport module h;", 2, SourceReason::UnitDiffers),
-        (
-            3,
-            b"\nimport a;\nimport b;",
-            2,
-            SourceReason::ImportInHeader,
-        ),
-        (3, b"\nmodule h;\nimport a;", 2, SourceReason::UnitDiffers),
-        (5, b"export module m;", 1, SourceReason::UnitDiffers),
-        (5, b"int", 1, SourceReason::Syntax),
-    ];
-    for (number, source, line, reason) in table {
-        assert!(rt;
-            refuses_source(rt.alloc(), number, source, line, reason),
-            "{source:?}"
-        );
+    for refused in AGAINST {
+        assert!(rt; refuses_source(rt.alloc(), refused), "{:?}", refused.source);
+    }
+}
+
+#[test]
+fn units_without_imports(rt: HostRuntime) {
+    for refused in ALONE {
+        assert!(rt; refuses_source(rt.alloc(), refused), "{:?}", refused.source);
     }
 }
 
 #[test]
 fn units_over_their_imports(rt: HostRuntime) {
-    let alone: [(u32, &[u8], u32, SourceReason); 3] = [
-        (5, b"int x; T y;", 1, SourceReason::UnknownType),
-        (
-            5,
-            b"struct T;\nvoid f(T, U);\nV v;",
-            2,
-            SourceReason::UnknownType,
-        ),
-        (5, b"int T;\nT y;", 2, SourceReason::UnknownType),
-    ];
-    for (number, source, line, reason) in alone {
+    for refused in OVER {
         assert!(rt;
-            refuses_source(rt.alloc(), number, source, line, reason),
-            "{source:?}"
-        );
-    }
-    let above: [(&[u8], u32, SourceReason); 2] = [
-        (
-            b"export module m;\nexport import :q;\nT y;",
-            2,
-            SourceReason::ExportedImplementation,
-        ),
-        (
-            b"export module m;\nimport :q;\nP y;",
-            3,
-            SourceReason::UnknownType,
-        ),
-    ];
-    for (source, line, reason) in above {
-        assert!(rt;
-            refuses_over(rt.alloc(), source, line, reason) == Some(true),
-            "{source:?}"
+            refuses_over(rt.alloc(), refused) == Some(true),
+            "{:?}",
+            refused.source
         );
     }
 }

@@ -1,8 +1,8 @@
 //! The names of types, as a set.
 
-ghost use Rattle.std.specs.Prelude.{◌≡◌, ◌++◌, [], ◌∷◌, OnOk, IfOk, List, ℕ};
+ghost use Rattle.std.specs.Prelude.{◌≡◌, ◌++◌, [], ◌∷◌, slice_get, OnOk, IfOk, List, ℕ};
 ghost use Rattle.export_lists.specs.Compiling.{is_type, is_among, type_name, types_in, types_of, unknown_in, unknown_lines};
-ghost use Rattle.export_lists.specs.Types.{Knows, first_of};
+ghost use Rattle.export_lists.specs.Types.{Knows};
 
 use crate::listed::Listed;
 use indexmap::IndexSet;
@@ -80,7 +80,7 @@ impl<'a> Types<'a> {
 
     /// The line of the first of the uses whose name isn't there.
     fn first_unknown(&self, uses: &[TypeUse]) -> Option<u32>
-        ensures { result ≡ first_of (unknown_in self.now uses.now) }
+        ensures { result ≡ slice_get (unknown_in self.now uses.now) 0 }
     {
         for used in uses {
             if !self.has(used.name.octets()) {
@@ -92,7 +92,7 @@ impl<'a> Types<'a> {
 
     /// The line of the first use of a type that is neither there nor declared before.
     pub(crate) fn first_undeclared(mut self, decls: &'a [Decl]) -> Result<Option<u32>, Memory>
-        ensures { IfOk result (λ line. (known : List (List ℕ)) → Knows self.entry known → line ≡ first_of (unknown_lines known decls.now)) }
+        ensures { IfOk result (λ line. (known : List (List ℕ)) → Knows self.entry known → line ≡ slice_get (unknown_lines known decls.now) 0) }
     {
         for decl in decls {
             if let Some(line) = self.first_unknown(decl.types.as_slice()) {

@@ -1,8 +1,8 @@
 -- What is all there is served to its end, where nothing fails; and why a read is at fault.
 use Rattle.std.proofs.Common.{◌≡◌, ◌≢◌, ◌⊎◌, inl, inr, ℕ, ◌+◌, ◌-◌, ◌≤◌, ◌<◌, List, [], ◌∷◌, ◌++◌, length, map, take, Option, Some, None, Ok, Err, IfSome, refl, sym, ap, subst, ◌∙◌, arith}
+use Rattle.std.proofs.lemmas.Option.{none-some}
 use Rattle.std.specs.Prelude.{IsSomeAnd, String, string_bytes}
 use Rattle.std.specs.declared.alloc.Global.{Global}
-use Rattle.std.proofs.lemmas.Fmt.{decimal_injective}
 use Rattle.std.proofs.lemmas.List.{append-nil, length-append, take_all}
 use Rattle.mm_outside.specs.Causes.{Rose}
 use Rattle.mm_outside.specs.Files.{Lookup}
@@ -22,37 +22,15 @@ use Rattle.connection_core.specs.declared.conn_end.ConnEnd.TheVariants.{Closed, 
 use Rattle.connection_core.specs.Asking.{Block, acts}
 use Rattle.connection_core.specs.Alone.{solo}
 use Rattle.connection_core.specs.Ends.{Filled, whole_course, status_of as conn_status}
-use Rattle.modmap.specs.Commands.{Pipe, AsksPipe, usual, counted, AsksFor}
+use Rattle.modmap.specs.Commands.{Pipe, AsksFor}
 use Rattle.modmap.specs.Endings.{Ended, BadWords, OutOfMemory, CannotRead, FileTooLong, Refused, Served, Reported, Cut, WriteFailed, status_of}
-use Rattle.modmap.specs.ProjectFiles.{DeclaresProject, FindsProject, IsReadAs, most_project_octets}
-use Rattle.modmap.specs.Running.{Outside, Pipes, IsWhole, IsAllThere, LacksFile}
+use Rattle.modmap.specs.ProjectFiles.{DeclaresProject, FindsProject, IsOfFile, IsReadAs, most_project_octets}
+use Rattle.modmap.specs.Running.{Outside, ReadsProject, Pipes, served, refused, no_memory, IsWhole, HasStood, LacksFile}
 use Rattle.modmap.specs.Serving.{ServesAlone}
 use Rattle.modmap.proofs.Answering.{acts_behind}
-use Rattle.modmap.proofs.Forms.{same_verb}
-use Rattle.modmap.proofs.Runnings.{asked_of_pipe}
+use Rattle.modmap.proofs.Runnings.{conn_fault}
 use Rattle.modmap.proofs.Soloing.{gone_course}
-
--- ---- one command
-
-same_task : (words : List (List ℕ)) (a b : List ℕ) (m n : ℕ) → AsksPipe words (Pipe a m) → AsksPipe words (Pipe b n) → (a ≡ b) × (m ≡ n)
-same_task words a b m n (usual project are is) (usual other are2 is2) = (cc, cc)
-same_task words a b m n (usual project are is) (counted other word count are2 spelled is2) = absurd (one_two project other word (sym are ∙ are2))
-  where
-    one_two : (x y z : List ℕ) → x ∷ [] ≡ y ∷ z ∷ [] → ⊥
-    one_two x y z e = omega (arith, ap length e)
-same_task words a b m n (counted other word count are2 spelled is2) (usual project are is) = absurd (two_one project other word (sym are ∙ are2))
-  where
-    two_one : (x y z : List ℕ) → x ∷ [] ≡ y ∷ z ∷ [] → ⊥
-    two_one x y z e = omega (arith, ap length e)
-same_task words a b m n (counted project word count are spelled is) (counted other word2 count2 are2 spelled2 is2) =
-    let words_are : word ≡ word2 = cc in
-    let counts : count ≡ count2 = decimal_injective count count2 (omega (arith, spelled.at_most)) (omega (arith, spelled2.at_most)) (sym spelled.decimal_is ∙ words_are ∙ spelled2.decimal_is) in
-    (cc, cc)
-
--- the words ask for one thing at most
-one_task : (words : List (List ℕ)) (a b : List ℕ) (m n : ℕ) → AsksFor words (Pipe a m) → AsksFor words (Pipe b n) → (a ≡ b) × (m ≡ n)
-one_task words a b m n asks also =
-    same_task asks.rest a b m n (asked_of_pipe words a m asks) (subst (λ some. AsksPipe some (Pipe b n)) (sym (same_verb asks.first also.first asks.rest also.rest (sym asks.words_are ∙ also.words_are)).1) (asked_of_pipe words b n also))
+use Rattle.modmap.proofs.Statuses.{differ, file_four}
 
 -- ---- one project
 
@@ -140,11 +118,8 @@ not_refused failed name project BadWords content none memory known read = read
 not_refused failed name project OutOfMemory content none memory known read = memory refl
 not_refused failed name project (CannotRead named) content none memory known read = by read.cause
   where
-    no_text : (text : List ℕ) → None ≡ Some text → ⊥
-    no_text text e = cc
-
     by : (content ≡ None) ⊎ failed → ⊥
-    by (inl absent) = no_text known.text (sym absent ∙ known.held_is)
+    by (inl absent) = none-some known.text (sym absent ∙ known.held_is)
     by (inr fault) = none fault
 not_refused failed name project (FileTooLong named) content none memory known read =
     let texts : known.text ≡ read.text = same_some known.text read.text (sym known.held_is ∙ read.held_is) in
@@ -166,61 +141,42 @@ told_refused failed name project ended (Some before) None none memory known told
 told_refused failed name project ended (Some before) (Some now) none memory known told = not_refused failed name project ended (before name) none memory known told.so.is_read_as
 
 module _ {L : Type 0} (outside : Outside L) (words : List (String Global)) (name : List ℕ) (entries : ℕ) (asks : AsksFor (map string_bytes words) (Pipe name entries)) where
-  all_served : (project : ProjectView) (ended : Ended) → IsSomeAnd outside.files_before (λ content. DeclaresProject (content name) project) → IsSomeAnd (outside.octets outside.link_before) (IsWhole project entries)
-      → (Rose outside.file_reads_before outside.file_reads_now → ⊥) → (Rose outside.link_reads_before outside.link_reads_now → ⊥) → (Rose outside.link_writes_before outside.link_writes_now → ⊥)
-      → Pipes outside ended name entries → (status_of ended ≡ 0) ⊎ (status_of ended ≡ 3)
-  all_served project BadWords file input no_file no_read no_write h = absurd h
-  all_served project OutOfMemory file input no_file no_read no_write h = inr refl
-  all_served project (CannotRead named) file input no_file no_read no_write h = absurd (told_refused (Rose outside.file_reads_before outside.file_reads_now) name project (CannotRead named) outside.files_before outside.files_now no_file (λ e. cc) file h.reads)
-  all_served project (FileTooLong named) file input no_file no_read no_write h = absurd (told_refused (Rose outside.file_reads_before outside.file_reads_now) name project (FileTooLong named) outside.files_before outside.files_now no_file (λ e. cc) file h.reads)
-  all_served project (Refused named line reason) file input no_file no_read no_write h = absurd (told_refused (Rose outside.file_reads_before outside.file_reads_now) name project (Refused named line reason) outside.files_before outside.files_now no_file (λ e. cc) file h.reads)
-  all_served project (Served how) file input no_file no_read no_write h =
-      let same : project ≡ h.project = sym (told_project (Rose outside.file_reads_before outside.file_reads_now) name project h.project outside.files_before outside.files_now file h.reads) in
-      let closed : how ≡ Closed = told_closed h.project entries how (outside.octets outside.link_before) (outside.octets outside.link_now) (subst (λ some. IsSomeAnd (outside.octets outside.link_before) (IsWhole some entries)) same input) (λ e. no_read (h.causes.read e)) (λ e. no_write (h.causes.write e)) h.serves in
-      inl (ap conn_status closed)
-  all_served project (Reported report) file input no_file no_read no_write h = absurd h
-  all_served project (Cut report) file input no_file no_read no_write h = absurd h
-  all_served project WriteFailed file input no_file no_read no_write h = absurd h
+  not_taken : (project : ProjectView) (ended : Ended) → IsSomeAnd outside.files_before (λ content. DeclaresProject (content name) project) → HasStood outside.file_reads_before outside.file_reads_now → IsOfFile ended → ReadsProject outside name (Err ended) → status_of ended ≡ 3
+  not_taken project BadWords file no_file kind reads = absurd kind
+  not_taken project OutOfMemory file no_file kind reads = refl
+  not_taken project (CannotRead named) file no_file kind reads = absurd (told_refused (Rose outside.file_reads_before outside.file_reads_now) name project (CannotRead named) outside.files_before outside.files_now no_file (λ e. cc) file reads)
+  not_taken project (FileTooLong named) file no_file kind reads = absurd (told_refused (Rose outside.file_reads_before outside.file_reads_now) name project (FileTooLong named) outside.files_before outside.files_now no_file (λ e. cc) file reads)
+  not_taken project (Refused named line reason) file no_file kind reads = absurd (told_refused (Rose outside.file_reads_before outside.file_reads_now) name project (Refused named line reason) outside.files_before outside.files_now no_file (λ e. cc) file reads)
+  not_taken project (Served how) file no_file kind reads = absurd kind
+  not_taken project (Reported report) file no_file kind reads = absurd kind
+  not_taken project (Cut report) file no_file kind reads = absurd kind
+  not_taken project WriteFailed file no_file kind reads = absurd kind
 
   -- a run of which all is there ends with 0, or wants memory
-  pub completes : (ended : Ended) (status : ℕ) → status ≡ status_of ended → Pipes outside ended name entries → IsAllThere words outside.files_before (outside.octets outside.link_before)
-      → (Rose outside.file_reads_before outside.file_reads_now → ⊥) → (Rose outside.link_reads_before outside.link_reads_now → ⊥) → (Rose outside.link_writes_before outside.link_writes_now → ⊥)
-      → (status ≡ 0) ⊎ (status ≡ 3)
-  completes ended status is h there no_file no_read no_write =
-      let same = one_task (map string_bytes words) there.name name there.entries entries there.asks asks in
-      by (all_served there.project ended (subst (λ some. IsSomeAnd outside.files_before (λ content. DeclaresProject (content some) there.project)) same.0 there.file) (subst (λ some. IsSomeAnd (outside.octets outside.link_before) (IsWhole there.project some)) same.1 there.input) no_file no_read no_write h)
-    where
-      by : (status_of ended ≡ 0) ⊎ (status_of ended ≡ 3) → (status ≡ 0) ⊎ (status ≡ 3)
-      by (inl zero_is) = inl (is ∙ zero_is)
-      by (inr three) = inr (is ∙ three)
+  pub all_served : (project : ProjectView) (ended : Ended) → IsSomeAnd outside.files_before (λ content. DeclaresProject (content name) project) → IsSomeAnd (outside.octets outside.link_before) (IsWhole project entries)
+      → HasStood outside.file_reads_before outside.file_reads_now → HasStood outside.link_reads_before outside.link_reads_now → HasStood outside.link_writes_before outside.link_writes_now
+      → Pipes outside name entries ended → (status_of ended ≡ 0) ⊎ (status_of ended ≡ 3)
+  all_served project ended file input no_file no_read no_write (served how serves is) =
+      let same : project ≡ serves.project = sym (told_project (Rose outside.file_reads_before outside.file_reads_now) name project serves.project outside.files_before outside.files_now file serves.reads) in
+      let closed : how ≡ Closed = told_closed serves.project entries how (outside.octets outside.link_before) (outside.octets outside.link_now) (subst (λ some. IsSomeAnd (outside.octets outside.link_before) (IsWhole some entries)) same input) (λ e. no_read (serves.causes.read e)) (λ e. no_write (serves.causes.write e)) serves.serves in
+      inl (ap status_of is ∙ ap conn_status closed)
+  all_served project ended file input no_file no_read no_write (refused kind reads link) = inr (not_taken project ended file no_file kind reads)
+  all_served project ended file input no_file no_read no_write (no_memory aside is) = inr (ap status_of is)
 
   lacks : (named : List ℕ) (before now : Option Lookup) → Told (FindsProject (Rose outside.file_reads_before outside.file_reads_now) name (Err (CannotRead named))) before now → IfSome before (λ content. content name ≡ None) ⊎ Rose outside.file_reads_before outside.file_reads_now
   lacks named None now told = inl tt
   lacks named (Some before) None told = absurd told.so
   lacks named (Some before) (Some now) told = told.so.is_read_as.cause
 
-  conn_four : (how : ConnEnd) → status_of (Served how) ≡ 4 → how ≡ ReadFault
-  conn_four Closed e = absurd (omega (arith, e))
-  conn_four (Truncated lines) e = absurd (omega (arith, e))
-  conn_four ReadFault e = refl
-  conn_four WriteFault e = absurd (omega (arith, e))
-  conn_four TooLong e = absurd (omega (arith, e))
-  conn_four BatchTooLong e = absurd (omega (arith, e))
-  conn_four (HistoryFull m n) e = absurd (omega (arith, e))
-
   -- why a run ends with 4
-  pub fault_of_read : (ended : Ended) (status : ℕ) → status ≡ status_of ended → Pipes outside ended name entries → status ≡ 4
+  pub fault_of_read : (ended : Ended) → Pipes outside name entries ended → status_of ended ≡ 4
       → LacksFile words outside.files_before ⊎ (Rose outside.file_reads_before outside.file_reads_now ⊎ Rose outside.link_reads_before outside.link_reads_now)
-  fault_of_read BadWords status is h four = absurd h
-  fault_of_read OutOfMemory status is h four = absurd (omega (arith, is, four))
-  fault_of_read (CannotRead named) status is h four = by (lacks named outside.files_before outside.files_now h.reads)
+  fault_of_read ended (served how serves is) four =
+      let so : status_of (Served how) ≡ 4 = sym (ap status_of is) ∙ four in
+      inr (inr (serves.causes.read (conn_fault (λ end status. status ≡ 4 → end ≡ ReadFault) (λ e. refl) (λ e. absurd (omega (arith, e))) how (omega (arith, so)) (omega (arith, so)) so)))
+  fault_of_read ended (refused kind reads link) four = let named = file_four ended kind four in by (lacks named.0 outside.files_before outside.files_now (subst (λ e. ReadsProject outside name (Err e)) named.1 reads))
     where
       by : IfSome outside.files_before (λ content. content name ≡ None) ⊎ Rose outside.file_reads_before outside.file_reads_now → LacksFile words outside.files_before ⊎ (Rose outside.file_reads_before outside.file_reads_now ⊎ Rose outside.link_reads_before outside.link_reads_now)
       by (inl absent) = inl (record { task = Pipe name entries; asks = asks; name = name; is_read = refl; absent = absent })
       by (inr rose) = inr (inl rose)
-  fault_of_read (FileTooLong named) status is h four = absurd (omega (arith, is, four))
-  fault_of_read (Refused named line reason) status is h four = absurd (omega (arith, is, four))
-  fault_of_read (Served how) status is h four = inr (inr (h.causes.read (conn_four how (sym is ∙ four))))
-  fault_of_read (Reported report) status is h four = absurd h
-  fault_of_read (Cut report) status is h four = absurd h
-  fault_of_read WriteFailed status is h four = absurd h
+  fault_of_read ended (no_memory aside is) four = absurd (differ (status_of ended) 3 4 (λ e. omega (arith, e)) (ap status_of is) four)

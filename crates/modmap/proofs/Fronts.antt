@@ -1,5 +1,5 @@
 -- Files that are written one after another.
-use Rattle.std.proofs.Common.{◌≡◌, ◌≢◌, ℕ, zero, suc, ◌+◌, ◌<◌, ◌≤◌, ◌^◌, List, [], ◌∷◌, ◌++◌, length, take, drop, get_or, Option, Some, Result, Ok, Err, refl, sym, ap, subst, ◌∙◌, arith, codes, decimal, append_assoc, add-one}
+use Rattle.std.proofs.Common.{◌≡◌, ◌≢◌, ℕ, zero, suc, ◌+◌, ◌<◌, ◌≤◌, ◌^◌, List, [], ◌∷◌, ◌++◌, length, take, drop, get_or, Option, Some, Result, Ok, Err, refl, sym, ap, subst, ◌∙◌, arith, codes, decimal, append_assoc}
 use Rattle.std.specs.Prelude.{All, slice_get}
 use Rattle.std.proofs.lemmas.Fmt.{decimal_injective}
 use Rattle.std.proofs.lemmas.List.{append_cancel_left, append_cancel_right, length-append, length-take, take_at, drop_at, take-append-drop}
@@ -9,17 +9,9 @@ use Rattle.mm_outside.specs.Files.{Lookup, Stores}
 use Rattle.mm_outside.specs.Told.{Told}
 use Rattle.mm_outside.proofs.ToldLemmas.{Told-map, Told-same, Told-then}
 use Rattle.export_lists.specs.Generated.{numbered}
+use Rattle.export_lists.proofs.Loops.{taken}
 use Rattle.export_lists.specs.declared.generated.Generated.{Generated}
 use Rattle.modmap.specs.Generating.{NamedText, HoldTexts, StopsWithin, WritesAll, project_name, source_name, source_files, files_of}
-
-taken_next : {X : Type 0} (xs : List X) (k : ℕ) (x : X) → slice_get xs k ≡ Some x → take (suc k) xs ≡ take k xs ++ x ∷ []
-taken_next [] k x e = absurd (cc)
-taken_next (y ∷ xs) zero x e = let same : y ≡ x = cc in ap (λ z. z ∷ []) same
-taken_next (y ∷ xs) (suc k) x e = ap (λ zs. y ∷ zs) (taken_next xs k x e)
-
--- the items up to the next place
-taken : {X : Type 0} (xs : List X) (k : ℕ) (x : X) → slice_get xs k ≡ Some x → take (k + 1) xs ≡ take k xs ++ x ∷ []
-taken xs k x e = rw add-one (taken_next xs k x e)
 
 -- all items, cut at a place
 whole : {X : Type 0} (xs : List X) (k : ℕ) (x : X) → slice_get xs k ≡ Some x → xs ≡ take k xs ++ x ∷ drop (k + 1) xs

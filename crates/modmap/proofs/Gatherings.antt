@@ -1,11 +1,12 @@
 -- What the files of units hold, one unit after another.
-use Rattle.std.proofs.Common.{◌≡◌, ◌≢◌, ◌⊎◌, inl, inr, ℕ, zero, suc, ◌+◌, ◌<◌, Bool, true, false, List, [], ◌∷◌, ◌++◌, length, take, get_or, Option, Some, None, Result, Ok, Err, refl, sym, ap, subst, ◌∙◌, arith}
+use Rattle.std.proofs.Common.{◌≡◌, ◌≢◌, ◌⊎◌, inl, inr, ℕ, zero, suc, ◌+◌, ◌<◌, ◌≤◌, Bool, true, false, List, [], ◌∷◌, ◌++◌, length, take, get_or, Option, Some, None, Result, Ok, Err, refl, sym, ap, subst, ◌∙◌, arith}
 use Rattle.std.specs.Prelude.{slice_get, count_by, IfOk, IfErr, not, ◌||◌}
 use Rattle.std.specs.List.{list_any}
 use Rattle.std.proofs.lemmas.List.Folds.{list_any_at, list_any_more}
 use Rattle.std.specs.Option.{option_map_or}
 use Rattle.std.proofs.Math.Nat.{eq-or-lt_of_le}
 use Rattle.std.proofs.lemmas.List.{length-append}
+use Rattle.std.proofs.lemmas.List.Elements.{All-push}
 use Rattle.std.proofs.lemmas.List.Sums.{count_by_more_yes, count_by_more_no}
 use Rattle.std.proofs.lemmas.Option.{slice_get-get_or, slice_get_within, get_or_from_slice_get}
 use Rattle.mm_outside.specs.Files.{Lookup, Finds}
@@ -61,15 +62,17 @@ get_last (z ∷ xs) (suc k) x e = get_last xs k x (omega (arith, e))
 
 -- ---- as many as there are
 
-pub fit_source : (project : ProjectView) (k : ℕ) (sources : List (List ℕ)) (built : List Cmi) (text : List ℕ) → k < unit_count project → is_built project k ≡ false → Fit project k sources built → Fit project (suc k) (sources ++ text ∷ []) built
-fit_source project k sources built text lt isnt fit = record {
+pub fit_source : (project : ProjectView) (k : ℕ) (sources : List (List ℕ)) (built : List Cmi) (text : List ℕ) → k < unit_count project → is_built project k ≡ false → length text ≤ most_source_octets → Fit project k sources built → Fit project (suc k) (sources ++ text ∷ []) built
+fit_source project k sources built text lt isnt within fit = record {
   sources_fit = omega (arith, length-append sources (text ∷ []), fit.sources_fit);
+  short = All-push (λ (source : List ℕ). length source ≤ most_source_octets) sources text fit.short within;
   built_fit = fit.built_fit ∙ sym (more_no project k lt isnt);
 }
 
 pub fit_built : (project : ProjectView) (k : ℕ) (sources : List (List ℕ)) (built : List Cmi) (cmi : Cmi) → k < unit_count project → is_built project k ≡ true → Fit project k sources built → Fit project (suc k) (sources ++ [] ∷ []) (built ++ cmi ∷ [])
 fit_built project k sources built cmi lt is fit = record {
   sources_fit = omega (arith, length-append sources ([] ∷ []), fit.sources_fit);
+  short = All-push (λ (source : List ℕ). length source ≤ most_source_octets) sources [] fit.short (omega arith);
   built_fit = omega (arith, length-append built (cmi ∷ []), fit.built_fit, more_yes project k lt is);
 }
 
@@ -93,7 +96,7 @@ module _ (project : ProjectView) (content : Lookup) (k : ℕ) (sources : List (L
   -- one source more
   pub hold_source : (text : List ℕ) → is_built project k ≡ false → HoldsWithin content (ident_of project k) most_source_octets text → HoldUnits project content k sources built → HoldUnits project content (suc k) (sources ++ text ∷ []) built
   hold_source text isnt holds before = record {
-    fit = fit_source project k sources built text lt isnt before.fit;
+    fit = fit_source project k sources built text lt isnt holds.within before.fit;
     source = λ unit below none. source_by text holds before unit (before_or_here unit k below) none;
     interface = λ unit below is. interface_by isnt before unit (before_or_here unit k below) is;
   }

@@ -6,6 +6,7 @@ pub mod Pieces
 pub mod Going
 pub mod Turns
 pub mod PrintLemmas
+pub mod Statuses
 pub mod Runnings
 pub mod WordLemmas
 pub mod Complete

@@ -1,7 +1,8 @@
 -- A trace that is legal for its limit is legal for a smaller one that its entries and their ends fit in.
-use Rattle.std.proofs.Common.{◌≡◌, ℕ, ◌+◌, ◌≤◌, Bool, true, false, cond, List, [], ◌∷◌, suc, length, Option, Some, None, is_none, refl, arith}
-use Rattle.std.specs.Prelude.{min, filter, not, if◌then◌else◌}
+use Rattle.std.proofs.Common.{◌≡◌, ℕ, ◌+◌, ◌≤◌, true, List, [], ◌∷◌, suc, length, Option, Some, None, is_none, refl, arith}
+use Rattle.std.specs.Prelude.{min, not, if◌then◌else◌}
 use Rattle.std.proofs.lemmas.List.{length-map}
+use Rattle.std.proofs.lemmas.List.Sums.{count_by-le-length, length-filter}
 use Rattle.std.specs.List.{cons_option}
 use Rattle.std.proofs.lemmas.Bool.{and_parts, and_from}
 use Rattle.unit_registry.specs.Acts.{is_open_act}
@@ -14,14 +15,6 @@ use Rattle.histories.specs.Histories.{and_then, fault, is_legal_after, IsLegal}
 use Rattle.histories.proofs.LegalCounts.{lt_not, not_lt}
 use Rattle.histories.proofs.Passing.{checks, passes}
 
-pub filter_less : {A : Type 0} (p : A → Bool) → (xs : List A) → length (filter p xs) ≤ length xs
-filter_less p [] = omega arith
-filter_less p (x ∷ xs) = by (p x) (filter_less p xs)
-  where
-    by : (b : Bool) → length (filter p xs) ≤ length xs → length (cond b (x ∷ filter p xs) (filter p xs)) ≤ suc (length xs)
-    by true h = omega (arith, h)
-    by false h = omega (arith, h)
-
 option_less : {A : Type 0} (o : Option A) (xs : List A) (n : ℕ) → length xs ≤ n → length (cons_option o xs) ≤ suc n
 option_less None xs n h = omega (arith, h)
 option_less (Some x) xs n h = omega (arith, h)
@@ -33,9 +26,8 @@ opened_less (e ∷ answered) = option_less (if is_open_act e.act then Some e.con
 -- no more ends are to come than there are entries and workers
 reserved_less : (workers : ℕ) (answered : List Answered) → reserved workers answered ≤ length answered + workers
 reserved_less workers answered =
-    let few = filter_less (λ conn. not (has_gone answered conn)) (opened answered) in
     let all = opened_less answered in
-    omega (arith, few, all)
+    omega (arith, length-filter (λ conn. not (has_gone answered conn)) (opened answered), count_by-le-length (λ conn. not (has_gone answered conn)) (opened answered), all)
 
 module _ (project : ProjectView) (workers limit small total : ℕ) (enough : (m : ℕ) → m ≤ limit → m ≤ total + total + workers → m ≤ small) where
   passes_small : (noted : List Noted) (entry : Entry) → length noted + 1 ≤ total → is_none (fault project workers limit noted entry) ≡ true → is_none (fault project workers small noted entry) ≡ true

@@ -1,7 +1,7 @@
 -- A piece is taken block by block, by a session that has its desk alone.
 use Rattle.std.proofs.Common.{◌≡◌, ◌≢◌, inl, inr, ℕ, suc, ◌+◌, ◌<◌, ◌≤◌, ◌==◌, Bool, true, false, cond, List, [], ◌∷◌, ◌++◌, length, take, drop, Contains, Option, Some, None, refl, sym, ap, ap₂, subst, ◌∙◌, append_assoc, arith, eqb-true}
-use Rattle.std.proofs.lemmas.List.{append-nil, length-append, length-map, take-append-drop, take-append-le, take_at, drop_at}
-use Rattle.std.proofs.Math.Seq.{take-add}
+use Rattle.std.proofs.lemmas.List.{append-nil, length-append, length-map, nil_from_length, take-append-drop, take-append-le, take_at}
+use Rattle.std.proofs.Math.Seq.{take-append-add}
 use Rattle.std.proofs.lemmas.List.FromFn.{length-range_with_len}
 use Rattle.mm_outside.specs.Octets.{Octets}
 use Rattle.cody_batches.specs.Blocks.{blocks, taken, has_long_block, most_octets, PassesLimits}
@@ -29,16 +29,11 @@ use Rattle.connection_core.specs.Alone.{alone, solo, own_answers, stopped_behind
 use Rattle.connection_core.specs.Ends.{Served, Whole, Stopped, Filled, AllRead, status_of, last_of, whole_course}
 use Rattle.connection_core.specs.Taking.{TakesBlock}
 use Rattle.connection_core.specs.Entering.{Enters, IsServing, unit_kept, unit_behind}
-use Rattle.connection_core.specs.Sessions.{SessionState, StandsAfter, IsIdle, ended, octets_taken, lines_of, acts_due, EntersTook, EndsTaking, RepliesSo, due}
+use Rattle.connection_core.specs.Sessions.{SessionState, lines_of, acts_due, EntersTook, due}
 use Rattle.modmap.specs.Ladder.{so_far, Course, last_done, IsReady, TellsAll, IsAlone, Stands, Closes}
 use Rattle.modmap.proofs.Answering.{so_far-push, so_far_places, answers_stay, acts_behind, alone-append}
 use Rattle.modmap.proofs.Soloing.{course_stops, gone, gone_course, gone_is, gone_begins, solo_closed, solo_lost, solo_stopped, solo_filled}
 use Rattle.modmap.proofs.Waiting.{replies_alone, paused_last}
-
--- the front of two texts, which reaches into the second
-pub take_second : (first second : List ℕ) (n : ℕ) → take (length first + n) (first ++ second) ≡ first ++ take n second
-take_second first second n =
-    take-add (length first) n (first ++ second) ∙ ap (λ t. t ++ take n (drop (length first) (first ++ second))) (take_at first second (length first) refl) ∙ ap (λ t. first ++ take n t) (drop_at first second (length first) refl)
 
 -- ---- entries that are all of connection 0
 
@@ -95,14 +90,10 @@ module _ {Held : Type 0} (project : ProjectView) (limit : ℕ) where
 -- a desk that tells all has entered nothing where its places are the same
 same_history : {Held : Type 0} (before after : DeskState Held) (since : List Entry) → TellsAll before → TellsAll after → after.places ≡ before.places → after.seen.entries ≡ before.seen.entries ++ since → after.seen.entries ≡ before.seen.entries
 same_history before after since tells tells_after same history =
-    history ∙ ap (λ (xs : List Entry). before.seen.entries ++ xs) (none since (omega (arith, ap length history, length-append before.seen.entries since, sizes))) ∙ append-nil before.seen.entries
+    history ∙ ap (λ (xs : List Entry). before.seen.entries ++ xs) (nil_from_length since (omega (arith, ap length history, length-append before.seen.entries since, sizes))) ∙ append-nil before.seen.entries
   where
     sizes : length after.seen.entries ≡ length before.seen.entries
     sizes = sym (length-range_with_len 0 (length after.seen.entries)) ∙ ap length (sym tells_after.places ∙ same ∙ tells.places) ∙ length-range_with_len 0 (length before.seen.entries)
-
-    none : (xs : List Entry) → length xs ≡ 0 → xs ≡ []
-    none [] e = refl
-    none (x ∷ xs) e = absurd (omega (arith, e))
 
 pub looks_same : {Held : Type 0} (before after : DeskState Held) → TellsAll before → TellsAll after → Looks before after → after.seen.entries ≡ before.seen.entries
 looks_same before after tells tells_after looks = same_history before after looks.since tells tells_after looks.places looks.history
@@ -312,7 +303,7 @@ closes_write_fault project limit desk earlier block others before text count oct
       entries = gone_course (acts project entered) act.Lost ∙ ap (λ (bs : List Block). whole_course (acts project bs) act.Lost) (sym front_is);
       text = before ++ text;
       answered = ap (answers project 1 history 0) front_is ∙ ap (λ (bs : List Block). answers project 1 (gone (acts project bs) act.Lost) 0 entered) (sym (append-nil entered)) ∙ front_answered project entered [] act.Lost (before ++ text) whole_text;
-      part = (length before + count, omega (arith, less, length-append before text), written ∙ sym (take_second before text count));
+      part = (length before + count, omega (arith, less, length-append before text), written ∙ sym (take-append-add before text count));
       least = fronts;
     }
 

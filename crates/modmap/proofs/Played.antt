@@ -1,9 +1,10 @@
 -- The lines of an entry that was entered, and the imports that wait then.
-use Rattle.std.proofs.Common.{◌≡◌, inl, inr, ℕ, ◌+◌, ◌==◌, Bool, true, false, not, ◌&&◌, ◌||◌, cond, List, [], ◌∷◌, ◌++◌, length, filter, flat_map, reverse, Option, Some, None, is_none, refl, sym, ap, ap₂, subst, ◌∙◌, true≢false}
+use Rattle.std.proofs.Common.{◌≡◌, inl, inr, ℕ, ◌+◌, ◌==◌, Bool, true, false, not, ◌&&◌, ◌||◌, cond, List, [], ◌∷◌, ◌++◌, length, filter, flat_map, reverse, Option, None, is_none, refl, sym, ap, ap₂, subst, ◌∙◌, true≢false}
 use Rattle.std.proofs.lemmas.Bool.{and_parts, or_parts}
 use Rattle.std.proofs.lemmas.List.{reverse-reverse}
 use Rattle.std.proofs.lemmas.Grind.{flat_map-append}
 use Rattle.std.specs.Prelude.{filter_map, option_map}
+use Rattle.std.specs.Option.{option_to_list}
 use Rattle.std.specs.List.{cons_option, list_all}
 use Rattle.unit_registry.specs.Projects.{ProjectView}
 use Rattle.histories.specs.declared.answer.Answer.{Answer}
@@ -15,14 +16,14 @@ use Rattle.histories.specs.Noted.{Noted, answer_in, answered_of, pending, reply_
 use Rattle.histories.specs.Histories.{and_then, fault, is_stalled, is_stuck, note}
 use Rattle.histories.proofs.Acyclic.{answered_entry}
 use Rattle.histories.proofs.GoingOn.{candidates, in_waits, reply_new}
-use Rattle.histories.proofs.Legality.{length-noted_of, noted_push}
+use Rattle.histories.proofs.Legality.{length-noted_of, none_is, noted_push}
 use Rattle.histories.proofs.Members.{In, In-reverse}
 use Rattle.histories.proofs.Steps.{IsStanding, standing}
 use Rattle.registry_tables.specs.Imported.{may_end_unit}
 use Rattle.registry_tables.proofs.Openings.{reverse_filter}
 use Rattle.registry_core.specs.Ledgers.{Appends, IsLedger, LedgerView, Passes, done_in, noted_in, open_in, reply_at, with_entry}
 use Rattle.modmap.specs.Replays.{entry_text, found_at, found_text, placed_text}
-use Rattle.modmap.specs.Plays.{IsOf, IsWaitingList, awaited_by, ends_by, found_in, found_texts, one_option, option_text, wait_at, waits_in}
+use Rattle.modmap.specs.Plays.{IsOf, IsWaitingList, awaited_by, ends_by, found_in, found_texts, option_text, wait_at, waits_in}
 use Rattle.modmap.proofs.Playing.{awaited_is, candidates_reversed, ends_alike}
 use Rattle.modmap.proofs.Replaying.{all_wait, coming_is, found_after, pending_then, waits_then}
 
@@ -38,10 +39,6 @@ filter_whole p (x ∷ xs) all = ap₂ (λ b ys. cond b (x ∷ ys) ys) (all x (in
 
 from_reverse : {A : Type 0} (x : A) (xs : List A) → In x (reverse xs) → In x xs
 from_reverse x xs there = subst (λ ys. In x ys) (reverse-reverse xs) (In-reverse x (reverse xs) there)
-
-none_is : {A : Type 0} (o : Option A) → is_none o ≡ true → o ≡ None
-none_is None h = refl
-none_is (Some x) h = absurd (true≢false (sym h))
 
 not_busy : (a b c : Bool) → b ≡ false → (a && b && c) ≡ false
 not_busy true true c e = absurd (true≢false e)
@@ -103,16 +100,16 @@ module _ (ledger : LedgerView) (entry : Entry) (legal : IsLedger ledger) (passes
   pub lines_are : entry_text project ledger.workers ledger.entries entry ≡ placed_text place entry ++ (found_texts project after waited ++ option_text project place own)
   lines_are =
       ap (λ t. placed_text place entry ++ t)
-      (ap (flat_map (found_text project)) (coming_is project ledger.workers ledger.limit ledger.entries entry legal.legal ∙ ap (λ xs. xs ++ one_option (option_map (found_at place) own)) found_same)
-      ∙ flat_map-append (found_text project) (filter_map (found_in after) waited) (one_option (option_map (found_at place) own)))
+      (ap (flat_map (found_text project)) (coming_is project ledger.workers ledger.limit ledger.entries entry legal.legal ∙ ap (λ xs. xs ++ option_to_list (option_map (found_at place) own)) found_same)
+      ∙ flat_map-append (found_text project) (filter_map (found_in after) waited) (option_to_list (option_map (found_at place) own)))
 
   -- the imports that waited, with one that is told to wait with the entry
   abbrev listed : List Wait
-  listed = waited ++ one_option (option_map (wait_at place entry.conn) (awaited_by own entry.act))
+  listed = waited ++ option_to_list (option_map (wait_at place entry.conn) (awaited_by own entry.act))
 
   listed_are : listed ≡ reverse (candidates project noted entry)
   listed_are =
-      ap₂ (λ k o. waited ++ one_option (option_map (wait_at k entry.conn) o)) (sym size)
+      ap₂ (λ k o. waited ++ option_to_list (option_map (wait_at k entry.conn) o)) (sym size)
       (ap (λ o. awaited_by o entry.act) own_is ∙ awaited_is project noted entry.conn entry.act)
       ∙ sym (candidates_reversed said (length noted) entry.conn (pending project noted))
 
@@ -173,12 +170,12 @@ module _ (project : ProjectView) (workers : ℕ) (before after : LedgerView) (en
       ∙ ap (λ p. placed_text place entry ++ (found_texts p after waiting ++ option_text p place own)) of.project_is
 
   abbrev added : List Wait
-  added = waiting ++ one_option (option_map (wait_at place entry.conn) (awaited_by own entry.act))
+  added = waiting ++ option_to_list (option_map (wait_at place entry.conn) (awaited_by own entry.act))
 
-  added_are : added ≡ reverse (pending before.project (noted_in before)) ++ one_option (option_map (wait_at (length before.entries) entry.conn) (awaited_by (reply_at (with_entry before entry) (length before.entries)) entry.act))
+  added_are : added ≡ reverse (pending before.project (noted_in before)) ++ option_to_list (option_map (wait_at (length before.entries) entry.conn) (awaited_by (reply_at (with_entry before entry) (length before.entries)) entry.act))
   added_are =
-      ap (λ ws. ws ++ one_option (option_map (wait_at place entry.conn) (awaited_by own entry.act))) are.are
-      ∙ ap₂ (λ k o. reverse (pending before.project (noted_in before)) ++ one_option (option_map (wait_at k entry.conn) (awaited_by o entry.act))) at own_is_there
+      ap (λ ws. ws ++ option_to_list (option_map (wait_at place entry.conn) (awaited_by own entry.act))) are.are
+      ∙ ap₂ (λ k o. reverse (pending before.project (noted_in before)) ++ option_to_list (option_map (wait_at k entry.conn) (awaited_by o entry.act))) at own_is_there
 
   -- those that wait then
   pub played_waits : IsWaitingList after (filter (waits_in after) added)

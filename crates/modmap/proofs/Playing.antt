@@ -5,6 +5,7 @@ use Rattle.std.proofs.lemmas.List.Elements.{filter_map-append}
 use Rattle.std.proofs.lemmas.Option.{get_or_from_slice_get, slice_get_within}
 use Rattle.mm_outside.specs.declared.errors.Failed.{Failed as WriteFailed}
 use Rattle.std.proofs.lemmas.Grind.{flat_map-append}
+use Rattle.std.specs.Option.{option_to_list}
 use Rattle.std.specs.Prelude.{filter_map, option_map, slice_get, if◌then◌else◌}
 use Rattle.unit_registry.specs.declared.act.Act.{Act}
 use Rattle.unit_registry.specs.declared.act.Act.TheVariants.{Import}
@@ -25,7 +26,7 @@ use Rattle.registry_tables.specs.Imported.{is_report}
 use Rattle.registry_core.specs.Ledgers.{LedgerView, reply_at}
 use Rattle.modmap.specs.Paging.{Puts}
 use Rattle.modmap.specs.Replays.{found_text}
-use Rattle.modmap.specs.Plays.{awaited_by, ends_by, found_in, found_texts, one_option, option_text, wait_at}
+use Rattle.modmap.specs.Plays.{awaited_by, ends_by, found_in, found_texts, option_text, wait_at}
 use Rattle.modmap.proofs.Puttings.{puts_part, puts_then}
 use Rattle.modmap.proofs.Replaying.{filter_map_last}
 
@@ -35,7 +36,7 @@ awaited_said (Waits unit) = Some unit
 awaited_said said = None
 
 -- the oldest first: what is told to wait with the entry comes last
-pub candidates_reversed : (said : Said) (place conn : ℕ) (ws : List Wait) → reverse (wait_of said place conn ws) ≡ reverse ws ++ one_option (option_map (wait_at place conn) (awaited_said said))
+pub candidates_reversed : (said : Said) (place conn : ℕ) (ws : List Wait) → reverse (wait_of said place conn ws) ≡ reverse ws ++ option_to_list (option_map (wait_at place conn) (awaited_said said))
 candidates_reversed (Waits unit) place conn ws = reverse-append (wait_at place conn unit ∷ []) ws
 candidates_reversed (Reply answer) place conn ws = sym (append-nil (reverse ws))
 candidates_reversed Nothing place conn ws = sym (append-nil (reverse ws))
@@ -74,7 +75,7 @@ module _ (project : ProjectView) (noted : List Noted) (conn : ℕ) where
 pub found_more : (project : ProjectView) (ledger : LedgerView) (xs : List Wait) (w : Wait) → found_texts project ledger (xs ++ w ∷ []) ≡ found_texts project ledger xs ++ option_text project w.place (reply_at ledger w.place)
 found_more project ledger xs w =
     ap (flat_map (found_text project)) (filter_map_last (found_in ledger) xs w)
-    ∙ flat_map-append (found_text project) (filter_map (found_in ledger) xs) (one_option (found_in ledger w))
+    ∙ flat_map-append (found_text project) (filter_map (found_in ledger) xs) (option_to_list (found_in ledger w))
 
 -- ---- the imports that have a reply, one by one
 

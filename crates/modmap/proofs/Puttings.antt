@@ -1,15 +1,11 @@
 -- Texts that go out one behind another.
-use Rattle.std.proofs.Common.{◌≡◌, ℕ, ◌+◌, List, ◌++◌, length, take, drop, Option, Result, Ok, Err, refl, sym, ap, subst, ◌∙◌, append_assoc, arith}
-use Rattle.std.proofs.lemmas.List.{length-append, take-append-le, take_at, drop_at}
-use Rattle.std.proofs.Math.Seq.{take-add}
+use Rattle.std.proofs.Common.{◌≡◌, ℕ, ◌+◌, List, ◌++◌, length, take, Option, Result, Ok, Err, refl, sym, ap, subst, ◌∙◌, append_assoc, arith}
+use Rattle.std.proofs.lemmas.List.{length-append, take-append-le}
+use Rattle.std.proofs.Math.Seq.{take-append-add}
 use Rattle.mm_outside.specs.declared.errors.Failed.{Failed}
 use Rattle.mm_outside.proofs.ToldLemmas.{Told-map, Told-then}
 use Rattle.modmap.specs.Endings.{IsCut}
 use Rattle.modmap.specs.Paging.{GoesOut, Puts}
-
-take_second : (first second : List ℕ) (n : ℕ) → take (length first + n) (first ++ second) ≡ first ++ take n second
-take_second first second n =
-    take-add (length first) n (first ++ second) ∙ ap (λ t. t ++ take n (drop (length first) (first ++ second))) (take_at first second (length first) refl) ∙ ap (λ t. first ++ take n t) (drop_at first second (length first) refl)
 
 goes_then : (one two h0 h1 h2 x y z : List ℕ) → GoesOut one h0 h1 x y → GoesOut two h1 h2 y z → GoesOut (one ++ two) h0 h2 x z
 goes_then one two h0 h1 h2 x y z p q = record {
@@ -22,7 +18,7 @@ cut_then : (one two h0 h1 x y z : List ℕ) → GoesOut one h0 h1 x y → IsCut 
 cut_then one two h0 h1 x y z p q = record {
   count = length p.gone + q.count;
   proper = let s = q.proper in let e = ap length whole in omega (arith, s, e, length-append p.gone (h1 ++ two));
-  appended = q.appended ∙ ap (λ t. t ++ take q.count (h1 ++ two)) p.written ∙ append_assoc x p.gone (take q.count (h1 ++ two)) ∙ ap (λ t. x ++ t) (sym (take_second p.gone (h1 ++ two) q.count) ∙ ap (take (length p.gone + q.count)) whole);
+  appended = q.appended ∙ ap (λ t. t ++ take q.count (h1 ++ two)) p.written ∙ append_assoc x p.gone (take q.count (h1 ++ two)) ∙ ap (λ t. x ++ t) (sym (take-append-add p.gone (h1 ++ two) q.count) ∙ ap (take (length p.gone + q.count)) whole);
 }
   where
     whole : p.gone ++ (h1 ++ two) ≡ h0 ++ (one ++ two)

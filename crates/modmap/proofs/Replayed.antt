@@ -1,33 +1,31 @@
 -- A replay that has gone over the first entries of a trace.
 use Rattle.std.proofs.Common.{◌≡◌, ℕ, ◌+◌, ◌<◌, ◌≤◌, ◌^◌, suc, List, [], ◌∷◌, ◌++◌, length, take, drop, Option, Some, None, Result, Ok, Err, IfOk, sym, ap, ap₂, subst, ◌∙◌, append_assoc, arith}
 use Rattle.std.specs.Prelude.{All, min, slice_get}
-use Rattle.std.proofs.lemmas.List.{append-nil, length-map, length-reverse, length-take, take-append-drop, take_all, take_more}
+use Rattle.std.proofs.lemmas.List.{append-nil, length-reverse, length-take, take-append-drop, take_all, take_more}
 use Rattle.std.proofs.lemmas.Option.{get_or_from_slice_get, slice_get_within}
 use Rattle.mm_outside.specs.declared.errors.Failed.{Failed}
 use Rattle.mm_outside.specs.Sending.{AppendsAll}
 use Rattle.mm_outside.specs.Told.{Told}
 use Rattle.mm_outside.proofs.ToldLemmas.{Told-map}
 use Rattle.unit_registry.specs.Projects.{ProjectView}
-use Rattle.histories.specs.declared.answer.Said.{Said}
-use Rattle.histories.specs.declared.answer.Said.TheVariants.{Reply, Waits, Nothing}
-use Rattle.histories.specs.declared.answered.Answered.{Answered}
 use Rattle.histories.specs.declared.answered.Wait.{Wait}
 use Rattle.histories.specs.declared.entry.Entry.{Entry}
-use Rattle.histories.specs.Answered.{reserved, told_to_wait, wait_of}
+use Rattle.histories.specs.Answered.{reserved}
 use Rattle.histories.specs.Entries.{IsEntry}
 use Rattle.histories.specs.Histories.{IsLegal, answered_in, fault, noted_of}
-use Rattle.histories.specs.Noted.{Noted, answered_of, is_still_waiting, pending}
+use Rattle.histories.specs.Noted.{pending}
 use Rattle.histories.proofs.Legality.{legal_one_more, legal_prefix, length-noted_of}
 use Rattle.histories.proofs.LegalCounts.{ends_fit}
 use Rattle.trace_text.specs.declared.trace.Trace.{Trace}
 use Rattle.trace_text.specs.Texts.{IsTraceEntry}
+use Rattle.registry_core.proofs.Entered.{pending_few}
 use Rattle.registry_core.specs.Ledgers.{Appends, IsLedger, LedgerView, Passes, noted_in, open_in}
 use Rattle.modmap.specs.Endings.{IsCut}
 use Rattle.modmap.specs.Paging.{GoesOut, Puts}
 use Rattle.modmap.specs.Plays.{HasPlayed, IsWaitingList}
 use Rattle.modmap.specs.Replays.{end_line, end_text, entries_text, entry_text}
 use Rattle.modmap.specs.TraceFiles.{HasForm}
-use Rattle.modmap.proofs.Limits.{filter_less, legal_within}
+use Rattle.modmap.proofs.Limits.{legal_within}
 use Rattle.modmap.proofs.Puttings.{puts_part, puts_then}
 
 -- ---- the text of entries
@@ -119,23 +117,11 @@ module _ (project : ProjectView) (trace : Trace) (limit place : ℕ) (ledger : L
 
 -- ---- the last line
 
-told_less : (answered : List Answered) → length (told_to_wait answered) ≤ length answered
-told_less [] = omega arith
-told_less (e ∷ answered) = by (told_less answered) e.said
-  where
-    by : length (told_to_wait answered) ≤ length answered → (said : Said) → length (wait_of said (length answered) e.conn (told_to_wait answered)) ≤ suc (length answered)
-    by before (Waits unit) = omega (arith, before)
-    by before (Reply answer) = omega (arith, before)
-    by before Nothing = omega (arith, before)
-
 -- no more imports wait than there are entries
 pub waiting_few : (ledger : LedgerView) (waiting : List Wait) → IsWaitingList ledger waiting → length waiting ≤ length ledger.entries
 waiting_few ledger waiting waits =
     let listed : length waiting ≡ length (pending ledger.project (noted_in ledger)) = ap length waits.are ∙ length-reverse (pending ledger.project (noted_in ledger)) in
-    let kept = filter_less (is_still_waiting ledger.project (noted_in ledger)) (told_to_wait (answered_of (noted_in ledger))) in
-    let told = told_less (answered_of (noted_in ledger)) in
-    let size : length (answered_of (noted_in ledger)) ≡ length ledger.entries = length-map (noted_in ledger) (λ (x : Noted). x.answered) ∙ length-noted_of ledger.project ledger.workers ledger.entries in
-    omega (arith, listed, kept, told, size)
+    omega (arith, listed, pending_few ledger.project (noted_in ledger), length-noted_of ledger.project ledger.workers ledger.entries)
 
 -- there is room for one more where there is for one more entry
 pub waiting_room : (ledger : LedgerView) (waiting : List Wait) (room : ℕ) → IsWaitingList ledger waiting → length ledger.entries < room → length waiting < room

@@ -4,6 +4,7 @@ use Rattle.std.proofs.lemmas.Bool.{and_parts, and_from, and_right, cond-true, co
 use Rattle.std.proofs.lemmas.List.{reverse-append, append-nil, length-map}
 use Rattle.std.proofs.lemmas.List.Elements.{filter_map-append}
 use Rattle.std.specs.Prelude.{filter_map, option_map, if◌then◌else◌}
+use Rattle.std.specs.Option.{option_to_list}
 use Rattle.std.specs.List.{cons_option, range_with_len}
 use Rattle.unit_registry.specs.Projects.{ProjectView}
 use Rattle.histories.specs.declared.answer.Answer.{Answer}
@@ -18,7 +19,7 @@ use Rattle.histories.specs.Noted.{Noted, answered_of, answer_in, fate, is_given_
 use Rattle.histories.specs.Histories.{and_then, fault, is_stalled, note, noted_of, reply, IsLegal}
 use Rattle.histories.proofs.Acyclic.{answered_entry}
 use Rattle.histories.proofs.Agree.{reply-past}
-use Rattle.histories.proofs.GoingOn.{candidates, still, pending_after, reply_goes_on, reply_new, filter_alike_in}
+use Rattle.histories.proofs.GoingOn.{and_alike, candidates, still, pending_after, reply_goes_on, reply_new, filter_alike_in}
 use Rattle.histories.proofs.Legality.{noted_push, length-noted_of}
 use Rattle.histories.proofs.Members.{In, In-filter, In-map_from}
 use Rattle.histories.proofs.OneEntry.{is_open-parts}
@@ -26,8 +27,9 @@ use Rattle.histories.proofs.Steps.{IsStanding, agreed-more, standing, stands_ope
 use Rattle.histories.proofs.WhatIsSaid.{waits_by_import}
 use Rattle.registry_tables.specs.Imported.{may_end_unit}
 use Rattle.registry_core.proofs.Entering.{candidate_told, open_is}
+use Rattle.registry_core.proofs.Entered.{cases_of}
 use Rattle.registry_core.proofs.Idle.{same_fate}
-use Rattle.modmap.specs.Plays.{one_option}
+use Rattle.registry_core.proofs.Keeping.{none_of}
 use Rattle.modmap.specs.Replays.{Found, found_at, coming, all_coming}
 
 -- ---- lists of places
@@ -40,14 +42,14 @@ range_more : (a n : ℕ) → range_with_len a (suc n) ≡ range_with_len a n ++ 
 range_more a zero = ap (λ k. k ∷ []) (omega arith)
 range_more a (suc n) = ap (λ xs. a ∷ xs) (range_more (a + 1) n ∙ ap (λ k. range_with_len (a + 1) n ++ k ∷ []) (omega arith))
 
-option_nil : {A : Type 0} (o : Option A) → cons_option o [] ≡ one_option o
+option_nil : {A : Type 0} (o : Option A) → cons_option o [] ≡ option_to_list o
 option_nil None = refl
 option_nil (Some x) = refl
 
 range_below : (n : ℕ) → range_with_len 0 (suc n) ≡ range_with_len 0 n ++ n ∷ []
 range_below n = range_more 0 n ∙ ap (λ k. range_with_len 0 n ++ k ∷ []) (omega arith)
 
-pub filter_map_last : {A B : Type 0} (h : A → Option B) (xs : List A) (x : A) → filter_map h (xs ++ x ∷ []) ≡ filter_map h xs ++ one_option (h x)
+pub filter_map_last : {A B : Type 0} (h : A → Option B) (xs : List A) (x : A) → filter_map h (xs ++ x ∷ []) ≡ filter_map h xs ++ option_to_list (h x)
 filter_map_last h xs x = filter_map-append h xs (x ∷ []) ∙ ap (λ ys. filter_map h xs ++ ys) (option_nil (h x))
 
 -- places below the bound, each below the one before it
@@ -81,10 +83,6 @@ within_bound bound [] place d there = absurd there
 within_bound bound (w ∷ ws) place d (inl same) = let e : w.place ≡ place = same in let l = d.0 in omega (arith, e, l)
 within_bound bound (w ∷ ws) place d (inr there) = let l = d.0 in let m = within_bound w.place ws place d.1 there in omega (arith, l, m)
 
-none_at : {A : Type 0} (o : Option A) → is_some o ≡ false → o ≡ None
-none_at None h = refl
-none_at (Some x) h = absurd (true≢false h)
-
 -- what stands at some places, gathered over all places below a bound, or over those places alone
 gathered : {B : Type 0} (g : ℕ → Option B) (h : Wait → Option B) → (bound : ℕ) (ws : List Wait) → Descends bound ws → ((w : Wait) → In w ws → h w ≡ g w.place)
     → ((place : ℕ) → place < bound → is_some (g place) ≡ true → In place (map (λ (w : Wait). w.place) ws)) → filter_map g (range_with_len 0 bound) ≡ filter_map h (reverse ws)
@@ -92,11 +90,11 @@ gathered g h zero [] d same all = refl
 gathered g h zero (w ∷ ws) d same all = let l = d.0 in absurd (omega (arith, l))
 gathered g h (suc bound) [] d same all =
     ap (filter_map g) (range_below bound) ∙ filter_map_last g (range_with_len 0 bound) bound
-    ∙ ap₂ (λ xs o. xs ++ one_option o) (gathered g h bound [] tt (λ w there. absurd there) (λ place l s. all place (omega (arith, l)) s)) (by (is_some (g bound)) refl)
+    ∙ ap₂ (λ xs o. xs ++ option_to_list o) (gathered g h bound [] tt (λ w there. absurd there) (λ place l s. all place (omega (arith, l)) s)) (by (is_some (g bound)) refl)
   where
     by : (b : Bool) → is_some (g bound) ≡ b → g bound ≡ None
     by true e = absurd (all bound (omega arith) e)
-    by false e = none_at (g bound) e
+    by false e = none_of (g bound) e
 gathered g h (suc bound) (w ∷ ws) d same all =
     by (λ e. gathered g h bound ws (subst (λ k. Descends k ws) e d.1) (λ v there. same v (inr there)) (behind e)) (λ less. gathered g h bound (w ∷ ws) (less, d.1) same (λ place l s. all place (omega (arith, l)) s)) (w.place == bound) refl
   where
@@ -110,17 +108,17 @@ gathered g h (suc bound) (w ∷ ws) d same all =
     here : w.place ≡ bound → filter_map g (range_with_len 0 bound) ≡ filter_map h (reverse ws) → filter_map g (range_with_len 0 (suc bound)) ≡ filter_map h (reverse (w ∷ ws))
     here e rest =
         ap (filter_map g) (range_below bound) ∙ filter_map_last g (range_with_len 0 bound) bound
-        ∙ ap₂ (λ xs o. xs ++ one_option o) rest (ap g (sym e) ∙ sym (same w (inl refl)))
+        ∙ ap₂ (λ xs o. xs ++ option_to_list o) rest (ap g (sym e) ∙ sym (same w (inl refl)))
         ∙ sym (ap (filter_map h) (reverse-append (w ∷ []) ws) ∙ filter_map_last h (reverse ws) w)
 
     nothing : w.place < bound → (b : Bool) → is_some (g bound) ≡ b → g bound ≡ None
     nothing less true e = let m = within_bound bound (w ∷ ws) bound (less, d.1) (all bound (omega arith) e) in absurd (omega (arith, m))
-    nothing less false e = none_at (g bound) e
+    nothing less false e = none_of (g bound) e
 
     below : w.place < bound → filter_map g (range_with_len 0 bound) ≡ filter_map h (reverse (w ∷ ws)) → filter_map g (range_with_len 0 (suc bound)) ≡ filter_map h (reverse (w ∷ ws))
     below less rest =
         ap (filter_map g) (range_below bound) ∙ filter_map_last g (range_with_len 0 bound) bound
-        ∙ ap₂ (λ xs o. xs ++ one_option o) rest (nothing less (is_some (g bound)) refl)
+        ∙ ap₂ (λ xs o. xs ++ option_to_list o) rest (nothing less (is_some (g bound)) refl)
         ∙ append-nil (filter_map h (reverse (w ∷ ws)))
 
     by : (w.place ≡ bound → filter_map g (range_with_len 0 bound) ≡ filter_map h (reverse ws)) → (w.place < bound → filter_map g (range_with_len 0 bound) ≡ filter_map h (reverse (w ∷ ws))) → (b : Bool) → (w.place == bound) ≡ b → filter_map g (range_with_len 0 (suc bound)) ≡ filter_map h (reverse (w ∷ ws))
@@ -193,15 +191,15 @@ module _ (project : ProjectView) (workers : ℕ) (noted : List Noted) (entry : E
 
 -- what comes with an entry: the replies of the imports that wait, and its own
 pub coming_is : (project : ProjectView) (workers limit : ℕ) (history : List Entry) (entry : Entry) → IsLegal project workers limit history
-    → all_coming project workers history entry ≡ filter_map (found_after project workers (noted_of project workers history) entry) (reverse (pending project (noted_of project workers history))) ++ one_option (option_map (found_at (length history)) (reply project workers (history ++ entry ∷ []) (length history)))
+    → all_coming project workers history entry ≡ filter_map (found_after project workers (noted_of project workers history) entry) (reverse (pending project (noted_of project workers history))) ++ option_to_list (option_map (found_at (length history)) (reply project workers (history ++ entry ∷ []) (length history)))
 coming_is project workers limit history entry legal =
     ap (λ k. filter_map (λ place. coming project workers history entry place) (range_with_len 0 k)) one
     ∙ filter_map_alike (λ place. coming project workers history entry place) (newly project workers noted entry) same (range_with_len 0 (suc (length history)))
     ∙ ap (λ k. filter_map (newly project workers noted entry) (range_with_len 0 (suc k))) (sym size)
     ∙ ap (filter_map (newly project workers noted entry)) (range_below (length noted))
     ∙ filter_map_last (newly project workers noted entry) (range_with_len 0 (length noted)) (length noted)
-    ∙ ap₂ (λ xs o. xs ++ one_option o) (newly_below project workers noted entry (standing project workers limit history legal)) (newly_own project workers noted entry)
-    ∙ ap (λ o. filter_map (found_after project workers noted entry) (reverse (pending project noted)) ++ one_option o) own
+    ∙ ap₂ (λ xs o. xs ++ option_to_list o) (newly_below project workers noted entry (standing project workers limit history legal)) (newly_own project workers noted entry)
+    ∙ ap (λ o. filter_map (found_after project workers noted entry) (reverse (pending project noted)) ++ option_to_list o) own
   where
     noted : List Noted
     noted = noted_of project workers history
@@ -231,12 +229,8 @@ module _ (project : ProjectView) (workers limit : ℕ) (noted : List Noted) (ent
   abbrev pub waits_then : Wait → Bool
   waits_then w = is_open (answered_of later) w.conn && is_none (reply_in project later w.place)
 
-  and_same : (a b c : Bool) → (a ≡ true → b ≡ c) → (a && b) ≡ (a && c)
-  and_same true b c h = h refl
-  and_same false b c h = refl
-
   still_is : (w : Wait) → In w (candidates project noted entry) → still project later w ≡ waits_then w
-  still_is w there = and_same (is_open (answered_of later) w.conn) (is_none (fate project later w.unit)) (is_none (reply_in project later w.place)) (λ opened. sym (agreed-more project workers noted entry s.kept s.agreed w (candidate_told project noted entry w there) opened))
+  still_is w there = and_alike (is_open (answered_of later) w.conn) (is_none (fate project later w.unit)) (is_none (reply_in project later w.place)) (λ opened. sym (agreed-more project workers noted entry s.kept s.agreed w (candidate_told project noted entry w there) opened))
 
   -- those that waited before or are told to wait with the entry, and still wait
   pub pending_then : pending project later ≡ filter waits_then (candidates project noted entry)
@@ -248,21 +242,15 @@ module _ (project : ProjectView) (workers limit : ℕ) (noted : List Noted) (ent
       ap (λ (given : List ℕ). fate project (note entry (answered_entry project noted entry).said given ∷ noted) unit) (cond-false _ _ _ stalls)
       ∙ same_fate project workers limit noted entry s passes ends (is_given_up noted unit) unit
 
-  old_or_new : (said : Said) (place conn : ℕ) (ws : List Wait) (w : Wait) → In w (wait_of said place conn ws) → ((said ≡ Waits w.unit) × (conn ≡ w.conn)) ⊎ In w ws
-  old_or_new (Waits unit) place conn ws w (inl same) = inl (ap (λ (x : Wait). Waits x.unit) same, ap (λ (x : Wait). x.conn) same)
-  old_or_new (Waits unit) place conn ws w (inr there) = inr there
-  old_or_new (Reply answer) place conn ws w there = inr there
-  old_or_new Nothing place conn ws w there = inr there
-
   not_ended : (w : Wait) → In w (candidates project noted entry) → is_none (fate project noted w.unit) ≡ true
-  not_ended w there = by (old_or_new (answered_entry project noted entry).said (length noted) entry.conn (pending project noted) w there)
+  not_ended w there = by (cases_of (answered_entry project noted entry).said (length noted) entry.conn (pending project noted) w there)
     where
       by : (((answered_entry project noted entry).said ≡ Waits w.unit) × (entry.conn ≡ w.conn)) ⊎ In w (pending project noted) → is_none (fate project noted w.unit) ≡ true
       by (inl new) = (waits_by_import project noted entry.conn entry.act w.unit new.0).not_ended
       by (inr old) = let parts = pending_parts project workers noted entry w old in sym (s.agreed w parts.0 parts.1) ∙ parts.2
 
   not_gone : (w : Wait) → In w (candidates project noted entry) → has_gone (answered_of noted) w.conn ≡ false
-  not_gone w there = by (old_or_new (answered_entry project noted entry).said (length noted) entry.conn (pending project noted) w there)
+  not_gone w there = by (cases_of (answered_entry project noted entry).said (length noted) entry.conn (pending project noted) w there)
     where
       by : (((answered_entry project noted entry).said ≡ Waits w.unit) × (entry.conn ≡ w.conn)) ⊎ In w (pending project noted) → has_gone (answered_of noted) w.conn ≡ false
       by (inl new) =

@@ -11,10 +11,11 @@ use Rattle.histories.specs.declared.illegal_reason.IllegalReason.{IllegalReason}
 use Rattle.histories.specs.Histories.{IsLegal, IsFirstFault}
 use Rattle.histories.proofs.Legality.{none_if_legal, some_if_illegal}
 use Rattle.trace_text.specs.declared.trace.Trace.{Trace}
-use Rattle.modmap.specs.Endings.{Report, Ended, BadWords, OutOfMemory, CannotRead, FileTooLong, Refused, Served, Reported, Cut, WriteFailed, Issues, status_of}
+use Rattle.modmap.specs.Endings.{Report, Ended, BadWords, OutOfMemory, CannotRead, FileTooLong, Refused, Served, Reported, Cut, WriteFailed, Output, Ends, Issues, Tells, status_of}
 use Rattle.modmap.specs.ProjectFiles.{FindsProject, IsOfFile, IsUnreadable}
 use Rattle.modmap.specs.TraceFiles.{FindsTrace, IsTraceReadAs}
-use Rattle.modmap.specs.Reports.{Refuses, FindsBoth, fault_of, by_fault, illegal_report}
+use Rattle.modmap.proofs.PrintLemmas.{ends_as, ends_map}
+use Rattle.modmap.specs.Reports.{Refuses, ReportsSo, FindsBoth, fault_of, by_fault, illegal_report}
 
 -- ---- a count that rises later has risen
 
@@ -69,28 +70,65 @@ module _ (failed late since : Type 0) (project_name trace_name : List ℕ) (a b 
 
 -- ---- endings
 
-module _ (failed : Type 0) (a b : Option Lookup) (project_name trace_name : List ℕ) where
-  pub stays : (ended : Ended) → Refuses failed a b project_name trace_name ended → Told (λ (old new : Lookup). new ≡ old) a b
+module _ (failed : Type 0) (a b : Option Lookup) (project_name trace_name : List ℕ) (reports : ProjectView → Trace → Report) where
+  stays : (ended : Ended) → Refuses failed a b project_name trace_name ended → Told (λ (old new : Lookup). new ≡ old) a b
   stays ended (Refuses.project_refused told) = Told-map (λ x y p. p.same) told
   stays ended (Refuses.trace_refused project first second) = Told-map (λ x y p. p.same) second
 
+  -- no file changes
+  pub report_stays : (ended : Ended) → ReportsSo failed a b reports project_name trace_name ended → Told (λ (old new : Lookup). new ≡ old) a b
+  report_stays ended (ReportsSo.reported project trace first second ends) = Told-map (λ x y p. p.same) second
+  report_stays ended (ReportsSo.refused kind refuses) = stays ended refuses
+  report_stays ended (ReportsSo.no_memory told is) = told
+
+  not_found : (ended : Ended) → IsOfFile ended → FindsBoth failed a b project_name trace_name (Err ended) → ReportsSo failed a b reports project_name trace_name ended
+  not_found BadWords kind found = absurd kind
+  not_found OutOfMemory kind found = ReportsSo.no_memory found refl
+  not_found (CannotRead named) kind found = ReportsSo.refused kind found
+  not_found (FileTooLong named) kind found = ReportsSo.refused kind found
+  not_found (Refused named line reason) kind found = ReportsSo.refused kind found
+  not_found (Served how) kind found = absurd kind
+  not_found (Reported report) kind found = absurd kind
+  not_found (Cut report) kind found = absurd kind
+  not_found WriteFailed kind found = absurd kind
+
+  module _ (output : Output) (status : ℕ) where
+    -- the message of why there is no report was printed
+    pub report_refused : (due : Ended) → IsOfFile due → FindsBoth failed a b project_name trace_name (Err due) → Tells due output status → Ends (ReportsSo failed a b reports project_name trace_name) output status
+    report_refused due kind found tells = let so = not_found due kind found in ends_as due so (ReportsSo.no_memory (report_stays due so) refl) tells
+
+    module _ (project : ProjectView) (trace : Trace) (first : Told (FindsProject failed project_name (Ok project)) a b) (second : Told (FindsTrace failed trace_name (Ok trace)) a b) where
+      -- the report was printed, or a part of it
+      pub report_issued : Issues (reports project trace) output status → Ends (ReportsSo failed a b reports project_name trace_name) output status
+      report_issued issues = ends_map (λ ended ends. ReportsSo.reported project trace first second ends) issues
+
+      -- memory was wanted for it
+      pub report_out : Tells OutOfMemory output status → Ends (ReportsSo failed a b reports project_name trace_name) output status
+      report_out tells = let out = ReportsSo.no_memory (Told-map (λ x y p. p.same) second) refl in ends_as OutOfMemory out out tells
+
 -- ---- printing a report
 
-module _ (report : Report) (before now : ℕ) (x y : Option (List ℕ)) where
+module _ (report : Report) (output : Output) where
   -- it was printed whole
-  pub issues_whole : (done : Unit {0}) → Told (AppendsAll {T = Unit {0}} {E = Failed} (Ok done) report.text) x y → Issues report before now x y (status_of (Reported report))
-  issues_whole done told = record { ending = Reported report; ending_is = inl refl; status_is = refl; spoken = told; cause = tt }
+  pub issues_whole : (done : Unit {0}) → output.faults_now ≡ output.faults_before → Told (AppendsAll {T = Unit {0}} {E = Failed} (Ok done) report.text) output.before output.now → Issues report output (status_of (Reported report))
+  issues_whole done kept told = record { ending = Reported report; status_is = refl; spoken = told; cause = kept; so = inl refl }
 
   -- or up to a fault
-  pub issues_cut : (failed : Failed) → Rose before now → Told (AppendsAll {T = Unit {0}} {E = Failed} (Err failed) report.text) x y → Issues report before now x y 5
-  issues_cut failed rose told = record { ending = Cut report; ending_is = inr refl; status_is = refl; spoken = Told-map {R = AppendsAll {T = Unit {0}} {E = Failed} (Err failed) report.text} (λ p q h. record { count = h.0; proper = h.1; appended = h.2 }) told; cause = rose }
+  pub issues_cut : (failed : Failed) → Rose output.faults_before output.faults_now → Told (AppendsAll {T = Unit {0}} {E = Failed} (Err failed) report.text) output.before output.now → Issues report output 5
+  issues_cut failed rose told = record {
+    ending = Cut report;
+    status_is = refl;
+    spoken = Told-map {R = AppendsAll {T = Unit {0}} {E = Failed} (Err failed) report.text} (λ p q h. record { count = h.0; proper = h.1; appended = h.2 }) told;
+    cause = rose;
+    so = inr refl;
+  }
 
 -- its status, where all that it tells of is well or not
-pub issues_good : (text : List ℕ) (good : Bool) (before now : ℕ) (x y : Option (List ℕ)) (done : Unit {0}) → good ≡ true → Told (AppendsAll {T = Unit {0}} {E = Failed} (Ok done) text) x y → Issues (record { text = text; good = good }) before now x y 0
-issues_good text good before now x y done is told = subst (λ b. Issues (record { text = text; good = b }) before now x y 0) (sym is) (issues_whole (record { text = text; good = true }) before now x y done told)
+pub issues_good : (text : List ℕ) (good : Bool) (output : Output) (done : Unit {0}) → good ≡ true → output.faults_now ≡ output.faults_before → Told (AppendsAll {T = Unit {0}} {E = Failed} (Ok done) text) output.before output.now → Issues (record { text = text; good = good }) output 0
+issues_good text good output done is kept told = subst (λ b. Issues (record { text = text; good = b }) output 0) (sym is) (issues_whole (record { text = text; good = true }) output done kept told)
 
-pub issues_bad : (text : List ℕ) (good : Bool) (before now : ℕ) (x y : Option (List ℕ)) (done : Unit {0}) → good ≡ false → Told (AppendsAll {T = Unit {0}} {E = Failed} (Ok done) text) x y → Issues (record { text = text; good = good }) before now x y 1
-issues_bad text good before now x y done is told = subst (λ b. Issues (record { text = text; good = b }) before now x y 1) (sym is) (issues_whole (record { text = text; good = false }) before now x y done told)
+pub issues_bad : (text : List ℕ) (good : Bool) (output : Output) (done : Unit {0}) → good ≡ false → output.faults_now ≡ output.faults_before → Told (AppendsAll {T = Unit {0}} {E = Failed} (Ok done) text) output.before output.now → Issues (record { text = text; good = good }) output 1
+issues_bad text good output done is kept told = subst (λ b. Issues (record { text = text; good = b }) output 1) (sym is) (issues_whole (record { text = text; good = false }) output done kept told)
 
 -- ---- a check
 
@@ -103,5 +141,5 @@ pub illegal_is : (project : ProjectView) (trace : Trace) (otherwise : Report) (p
 illegal_is project trace otherwise place reason fault = ap (λ found. by_fault found otherwise) ((some_if_illegal project trace.workers trace.limit trace.entries place reason).1 fault)
 
 -- a report that is the same was printed
-pub issues_same : (report other : Report) (before now : ℕ) (x y : Option (List ℕ)) (status : ℕ) → report ≡ other → Issues report before now x y status → Issues other before now x y status
-issues_same report other before now x y status same issues = subst (λ r. Issues r before now x y status) same issues
+pub issues_same : (report other : Report) (output : Output) (status : ℕ) → report ≡ other → Issues report output status → Issues other output status
+issues_same report other output status same issues = subst (λ r. Issues r output status) same issues

@@ -1,160 +1,97 @@
 -- What a run comes to, by its ending.
-use Rattle.std.proofs.Common.{◌≡◌, ◌≢◌, ◌⊎◌, inl, inr, ℕ, List, Option, refl, sym, ap, ◌∙◌, arith}
+use Rattle.std.proofs.Common.{◌≡◌, ◌≢◌, ◌⊎◌, inl, inr, ℕ, ◌<◌, List, refl, sym, ap, ◌∙◌, arith}
 use Rattle.mm_outside.specs.Causes.{Rose}
 use Rattle.mm_outside.specs.Files.{Lookup}
 use Rattle.mm_outside.specs.Told.{Told}
 use Rattle.connection_core.specs.declared.conn_end.ConnEnd.{ConnEnd}
 use Rattle.connection_core.specs.declared.conn_end.ConnEnd.TheVariants.{Closed, Truncated, ReadFault, WriteFault, TooLong, BatchTooLong, HistoryFull}
-use Rattle.modmap.specs.declared.verb.Verb.{Verb}
-use Rattle.modmap.specs.declared.verb.Verb.TheVariants as verb
-use Rattle.modmap.specs.Commands.{Pipe, Check, Replay, ListUnits, Generate, AsksPipe, AsksAs, AsksFor}
-use Rattle.modmap.specs.Endings.{Ended, BadWords, OutOfMemory, CannotRead, FileTooLong, Refused, Served, Reported, Cut, WriteFailed, Prints, Speaks, HasSinkCause, message_of, status_of}
-use Rattle.std.proofs.Common.{Err}
+use Rattle.modmap.specs.Endings.{Ended, Served, status_of}
 use Rattle.mm_outside.proofs.ToldLemmas.{Told-map}
-use Rattle.modmap.specs.ProjectFiles.{FindsProject, IsOfFile}
-use Rattle.modmap.specs.Running.{Outside, Pipes}
+use Rattle.modmap.specs.Running.{Outside, HasNoFault, Pipes, served, refused, no_memory}
+use Rattle.modmap.proofs.Statuses.{differ, file_never}
 
-no_check : (name project trace : List ℕ) (entries : ℕ) → Pipe name entries ≡ Check project trace → ⊥
-no_check name project trace entries e = cc
+-- an end of a connection whose status lies between 1 and 7 is a fault of a read or of a write
+pub conn_fault : (P : ConnEnd → ℕ → Type 0) → P ReadFault 4 → P WriteFault 5 → (how : ConnEnd) → 1 < status_of (Served how) → status_of (Served how) < 7 → P how (status_of (Served how))
+conn_fault P read write Closed more less = absurd (omega (arith, more))
+conn_fault P read write (Truncated lines) more less = absurd (omega (arith, less))
+conn_fault P read write ReadFault more less = read
+conn_fault P read write WriteFault more less = write
+conn_fault P read write TooLong more less = absurd (omega (arith, less))
+conn_fault P read write BatchTooLong more less = absurd (omega (arith, less))
+conn_fault P read write (HistoryFull m n) more less = absurd (omega (arith, less))
 
-no_replay : (name project trace : List ℕ) (entries : ℕ) → Pipe name entries ≡ Replay project trace → ⊥
-no_replay name project trace entries e = cc
-
-no_list : (name project : List ℕ) (entries : ℕ) → Pipe name entries ≡ ListUnits project → ⊥
-no_list name project entries e = cc
-
-no_gen : (name folder : List ℕ) (entries units seed : ℕ) → Pipe name entries ≡ Generate folder units seed → ⊥
-no_gen name folder entries units seed e = cc
-
--- what words that ask for `pipe` have behind the verb
-pub asked_of_pipe : (words : List (List ℕ)) (name : List ℕ) (entries : ℕ) (asks : AsksFor words (Pipe name entries)) → AsksPipe asks.rest (Pipe name entries)
-asked_of_pipe words name entries asks = by asks.first asks.asked
-  where
-    by : (first : Verb) → AsksAs first asks.rest (Pipe name entries) → AsksPipe asks.rest (Pipe name entries)
-    by verb.Pipe asked = asked
-    by verb.Check asked = absurd (no_check name asked.project asked.trace entries asked.task_is)
-    by verb.Replay asked = absurd (no_replay name asked.project asked.trace entries asked.task_is)
-    by verb.List asked = absurd (no_list name asked.project entries asked.task_is)
-    by verb.Gen asked = absurd (no_gen name asked.folder entries asked.units asked.seed asked.task_is)
+no_end : (how : ConnEnd) (n : ℕ) → 1 < n → n < 7 → n ≢ 4 → n ≢ 5 → status_of (Served how) ≢ n
+no_end how n more less read write e = conn_fault (λ end status. status ≡ n → ⊥) (λ f. read (sym f)) (λ f. write (sym f)) how (omega (arith, more, e)) (omega (arith, less, e)) e
 
 module _ {L : Type 0} (outside : Outside L) (name : List ℕ) (entries : ℕ) where
-  conn_two : (how : ConnEnd) → status_of (Served how) ≢ 2
-  conn_two Closed e = omega (arith, e)
-  conn_two (Truncated lines) e = omega (arith, e)
-  conn_two ReadFault e = omega (arith, e)
-  conn_two WriteFault e = omega (arith, e)
-  conn_two TooLong e = omega (arith, e)
-  conn_two BatchTooLong e = omega (arith, e)
-  conn_two (HistoryFull m n) e = omega (arith, e)
+  -- the status of an end of the link is never 1
+  conn_one : (how : ConnEnd) → status_of (Served how) ≢ 1
+  conn_one Closed e = omega (arith, e)
+  conn_one (Truncated lines) e = omega (arith, e)
+  conn_one ReadFault e = omega (arith, e)
+  conn_one WriteFault e = omega (arith, e)
+  conn_one TooLong e = omega (arith, e)
+  conn_one BatchTooLong e = omega (arith, e)
+  conn_one (HistoryFull m n) e = omega (arith, e)
+
+  -- and 0 is that of one end
+  conn_zero : (how : ConnEnd) → status_of (Served how) ≡ 0 → how ≡ Closed
+  conn_zero Closed e = refl
+  conn_zero (Truncated lines) e = absurd (omega (arith, e))
+  conn_zero ReadFault e = absurd (omega (arith, e))
+  conn_zero WriteFault e = absurd (omega (arith, e))
+  conn_zero TooLong e = absurd (omega (arith, e))
+  conn_zero BatchTooLong e = absurd (omega (arith, e))
+  conn_zero (HistoryFull m n) e = absurd (omega (arith, e))
 
   -- words that ask for `pipe` aren't answered as bad
-  pub never_two : (ended : Ended) → Pipes outside ended name entries → status_of ended ≢ 2
-  never_two BadWords h e = h
-  never_two OutOfMemory h e = omega (arith, e)
-  never_two (CannotRead named) h e = omega (arith, e)
-  never_two (FileTooLong named) h e = omega (arith, e)
-  never_two (Refused named line reason) h e = omega (arith, e)
-  never_two (Served how) h e = conn_two how e
-  never_two (Reported report) h e = h
-  never_two (Cut report) h e = h
-  never_two WriteFailed h e = h
+  pub never_two : (ended : Ended) → Pipes outside name entries ended → status_of ended ≢ 2
+  never_two ended (served how serves is) two = no_end how 2 (omega arith) (omega arith) (λ f. omega (arith, f)) (λ f. omega (arith, f)) (sym (ap status_of is) ∙ two)
+  never_two ended (refused kind reads link) two = file_never ended 2 kind (λ e. omega (arith, e)) (λ e. omega (arith, e)) (λ e. omega (arith, e)) two
+  never_two ended (no_memory aside is) two = differ (status_of ended) 3 2 (λ e. omega (arith, e)) (ap status_of is) two
+
+  -- nor does a report come
+  pub never_one : (ended : Ended) → Pipes outside name entries ended → status_of ended ≢ 1
+  never_one ended (served how serves is) one = conn_one how (sym (ap status_of is) ∙ one)
+  never_one ended (refused kind reads link) one = file_never ended 1 kind (λ e. omega (arith, e)) (λ e. omega (arith, e)) (λ e. omega (arith, e)) one
+  never_one ended (no_memory aside is) one = differ (status_of ended) 3 1 (λ e. omega (arith, e)) (ap status_of is) one
 
   -- the link is as it was after want of memory, and where the file is refused
-  aside : (ended : Ended) → Pipes outside ended name entries → ((how : ConnEnd) → ended ≡ Served how → ⊥) → outside.link_now ≡ outside.link_before
-  aside BadWords h none = absurd h
-  aside OutOfMemory h none = h.link
-  aside (CannotRead named) h none = h.link
-  aside (FileTooLong named) h none = h.link
-  aside (Refused named line reason) h none = h.link
-  aside (Served how) h none = absurd (none how refl)
-  aside (Reported report) h none = absurd h
-  aside (Cut report) h none = absurd h
-  aside WriteFailed h none = absurd h
+  pub untouched : (ended : Ended) (status : ℕ) → status ≡ status_of ended → Pipes outside name entries ended → (status ≡ 2) ⊎ ((status ≡ 3) ⊎ (status ≡ 6)) → outside.link_now ≡ outside.link_before
+  untouched ended status is (served how serves how_is) (inl two) = absurd (no_end how 2 (omega arith) (omega arith) (λ f. omega (arith, f)) (λ f. omega (arith, f)) (sym (ap status_of how_is) ∙ sym is ∙ two))
+  untouched ended status is (served how serves how_is) (inr (inl three)) = absurd (no_end how 3 (omega arith) (omega arith) (λ f. omega (arith, f)) (λ f. omega (arith, f)) (sym (ap status_of how_is) ∙ sym is ∙ three))
+  untouched ended status is (served how serves how_is) (inr (inr six)) = absurd (no_end how 6 (omega arith) (omega arith) (λ f. omega (arith, f)) (λ f. omega (arith, f)) (sym (ap status_of how_is) ∙ sym is ∙ six))
+  untouched ended status is (refused kind reads link) some = link
+  untouched ended status is (no_memory aside ended_is) some = aside.link
 
-  conn_three : (how : ConnEnd) → (status_of (Served how) ≡ 3) ⊎ (status_of (Served how) ≡ 6) → ⊥
-  conn_three Closed (inl e) = omega (arith, e)
-  conn_three Closed (inr e) = omega (arith, e)
-  conn_three (Truncated lines) (inl e) = omega (arith, e)
-  conn_three (Truncated lines) (inr e) = omega (arith, e)
-  conn_three ReadFault (inl e) = omega (arith, e)
-  conn_three ReadFault (inr e) = omega (arith, e)
-  conn_three WriteFault (inl e) = omega (arith, e)
-  conn_three WriteFault (inr e) = omega (arith, e)
-  conn_three TooLong (inl e) = omega (arith, e)
-  conn_three TooLong (inr e) = omega (arith, e)
-  conn_three BatchTooLong (inl e) = omega (arith, e)
-  conn_three BatchTooLong (inr e) = omega (arith, e)
-  conn_three (HistoryFull m n) (inl e) = omega (arith, e)
-  conn_three (HistoryFull m n) (inr e) = omega (arith, e)
+  pub fault_of_write : (ended : Ended) → Pipes outside name entries ended → status_of ended ≡ 5 → Rose outside.link_writes_before outside.link_writes_now
+  fault_of_write ended (served how serves is) five =
+      let so : status_of (Served how) ≡ 5 = sym (ap status_of is) ∙ five in
+      serves.causes.write (conn_fault (λ end status. status ≡ 5 → end ≡ WriteFault) (λ f. absurd (omega (arith, f))) (λ f. refl) how (omega (arith, so)) (omega (arith, so)) so)
+  fault_of_write ended (refused kind reads link) five = absurd (file_never ended 5 kind (λ e. omega (arith, e)) (λ e. omega (arith, e)) (λ e. omega (arith, e)) five)
+  fault_of_write ended (no_memory aside is) five = absurd (differ (status_of ended) 3 5 (λ e. omega (arith, e)) (ap status_of is) five)
 
-  pub untouched : (ended : Ended) (status : ℕ) → status ≡ status_of ended → Pipes outside ended name entries → (status ≡ 2) ⊎ ((status ≡ 3) ⊎ (status ≡ 6)) → outside.link_now ≡ outside.link_before
-  untouched ended status is h (inl two) = absurd (never_two ended h (sym is ∙ two))
-  untouched ended status is h (inr (inl three)) = aside ended h (λ how e. conn_three how (inl (sym (ap status_of e) ∙ sym is ∙ three)))
-  untouched ended status is h (inr (inr six)) = aside ended h (λ how e. conn_three how (inr (sym (ap status_of e) ∙ sym is ∙ six)))
+  -- what is served to its end has no fault behind it
+  pub served_well : (ended : Ended) → outside.file_writes_now ≡ outside.file_writes_before → Pipes outside name entries ended → status_of ended ≡ 0 → HasNoFault outside
+  served_well ended kept (served how serves is) done =
+      let closed : how ≡ Closed = conn_zero how (sym (ap status_of is) ∙ done) in
+      record { file_reads = serves.reads_kept; file_writes = kept; link_reads = serves.causes.read_kept (λ e. closed_not (sym closed ∙ e)); link_writes = serves.causes.write_kept (λ e. closed_neither (sym closed ∙ e)) }
+    where
+      closed_not : Closed ≡ ReadFault → ⊥
+      closed_not e = cc
 
-  conn_five : (how : ConnEnd) → status_of (Served how) ≡ 5 → how ≡ WriteFault
-  conn_five Closed e = absurd (omega (arith, e))
-  conn_five (Truncated lines) e = absurd (omega (arith, e))
-  conn_five ReadFault e = absurd (omega (arith, e))
-  conn_five WriteFault e = refl
-  conn_five TooLong e = absurd (omega (arith, e))
-  conn_five BatchTooLong e = absurd (omega (arith, e))
-  conn_five (HistoryFull m n) e = absurd (omega (arith, e))
+      closed_neither : Closed ≡ WriteFault → ⊥
+      closed_neither e = cc
+  served_well ended kept (refused kind reads link) done = absurd (file_never ended 0 kind (λ e. omega (arith, e)) (λ e. omega (arith, e)) (λ e. omega (arith, e)) done)
+  served_well ended kept (no_memory aside is) done = absurd (differ (status_of ended) 3 0 (λ e. omega (arith, e)) (ap status_of is) done)
 
-  pub fault_of_write : (ended : Ended) (status : ℕ) → status ≡ status_of ended → Pipes outside ended name entries → status ≡ 5 → Rose outside.link_writes_before outside.link_writes_now
-  fault_of_write BadWords status is h five = absurd h
-  fault_of_write OutOfMemory status is h five = absurd (omega (arith, is, five))
-  fault_of_write (CannotRead named) status is h five = absurd (omega (arith, is, five))
-  fault_of_write (FileTooLong named) status is h five = absurd (omega (arith, is, five))
-  fault_of_write (Refused named line reason) status is h five = absurd (omega (arith, is, five))
-  fault_of_write (Served how) status is h five = h.causes.write (conn_five how (sym is ∙ five))
-  fault_of_write (Reported report) status is h five = absurd h
-  fault_of_write (Cut report) status is h five = absurd h
-  fault_of_write WriteFailed status is h five = absurd h
+  -- the same of a status, of which 1 is none of `pipe`
+  pub piped_well : (ended : Ended) (status : ℕ) → status ≡ status_of ended → outside.file_writes_now ≡ outside.file_writes_before → Pipes outside name entries ended → (status ≡ 0) ⊎ (status ≡ 1) → HasNoFault outside
+  piped_well ended status is kept pipes (inl done) = served_well ended kept pipes (sym is ∙ done)
+  piped_well ended status is kept pipes (inr one) = absurd (never_one ended pipes (sym is ∙ one))
 
-  -- what is printed is the message
-  pub speaks : (ended : Ended) (before now : ℕ) (a b : Option (List ℕ)) → Pipes outside ended name entries → Told (Prints (message_of ended) before now) a b → Told (Speaks ended before now) a b
-  speaks BadWords before now a b h told = told
-  speaks OutOfMemory before now a b h told = told
-  speaks (CannotRead named) before now a b h told = told
-  speaks (FileTooLong named) before now a b h told = told
-  speaks (Refused named line reason) before now a b h told = told
-  speaks (Served how) before now a b h told = told
-  speaks (Reported report) before now a b h told = absurd h
-  speaks (Cut report) before now a b h told = absurd h
-  speaks WriteFailed before now a b h told = absurd h
-
-  pub no_sink_cause : (ended : Ended) (before now : ℕ) → Pipes outside ended name entries → HasSinkCause ended before now
-  no_sink_cause BadWords before now h = tt
-  no_sink_cause OutOfMemory before now h = tt
-  no_sink_cause (CannotRead named) before now h = tt
-  no_sink_cause (FileTooLong named) before now h = tt
-  no_sink_cause (Refused named line reason) before now h = tt
-  no_sink_cause (Served how) before now h = tt
-  no_sink_cause (Reported report) before now h = absurd h
-  no_sink_cause (Cut report) before now h = absurd h
-  no_sink_cause WriteFailed before now h = absurd h
-
--- `pipe` changes no file
-pub pipe_stays : {L : Type 0} (outside : Outside L) (name : List ℕ) (entries : ℕ) (ended : Ended) → Pipes outside ended name entries → Told (λ (old new : Lookup). new ≡ old) outside.files_before outside.files_now
-pipe_stays outside name entries BadWords h = absurd h
-pipe_stays outside name entries OutOfMemory h = h.files
-pipe_stays outside name entries (CannotRead named) h = Told-map (λ a b found. found.same) h.reads
-pipe_stays outside name entries (FileTooLong named) h = Told-map (λ a b found. found.same) h.reads
-pipe_stays outside name entries (Refused named line reason) h = Told-map (λ a b found. found.same) h.reads
-pipe_stays outside name entries (Served how) h = Told-map (λ a b found. found.same) h.reads
-pipe_stays outside name entries (Reported report) h = absurd h
-pipe_stays outside name entries (Cut report) h = absurd h
-pipe_stays outside name entries WriteFailed h = absurd h
-
--- a project file that brings an ending
-pub refused_so : {L : Type 0} (outside : Outside L) (name : List ℕ) (entries : ℕ) (ended : Ended) → IsOfFile ended → Told (FindsProject (Rose outside.file_reads_before outside.file_reads_now) name (Err ended)) outside.files_before outside.files_now → outside.link_now ≡ outside.link_before → Pipes outside ended name entries
-refused_so outside name entries BadWords kind reads link = absurd kind
-refused_so outside name entries OutOfMemory kind reads link = record { files = Told-map (λ a b found. found.same) reads; link = link }
-refused_so outside name entries (CannotRead named) kind reads link = record { reads = reads; link = link }
-refused_so outside name entries (FileTooLong named) kind reads link = record { reads = reads; link = link }
-refused_so outside name entries (Refused named line reason) kind reads link = record { reads = reads; link = link }
-refused_so outside name entries (Served how) kind reads link = absurd kind
-refused_so outside name entries (Reported report) kind reads link = absurd kind
-refused_so outside name entries (Cut report) kind reads link = absurd kind
-refused_so outside name entries WriteFailed kind reads link = absurd kind
+  -- `pipe` changes no file
+  pub pipe_stays : (ended : Ended) → Pipes outside name entries ended → Told (λ (old new : Lookup). new ≡ old) outside.files_before outside.files_now
+  pipe_stays ended (served how serves is) = Told-map (λ a b found. found.same) serves.reads
+  pipe_stays ended (refused kind reads link) = Told-map (λ a b found. found.same) reads
+  pipe_stays ended (no_memory aside is) = aside.files

@@ -1,6 +1,7 @@
 -- A connection that is served alone: what it has entered and was answered, block by block, and its history when it has gone.
 use Rattle.std.proofs.Common.{◌≡◌, ℕ, zero, suc, ◌+◌, ◌-◌, ◌<◌, ◌≤◌, ◌⊎◌, inl, inr, ◌==◌, ◌&&◌, true, false, cond, List, [], ◌∷◌, ◌++◌, length, take, Option, Some, sym, ap, ◌∙◌, append_assoc, arith}
 use Rattle.std.specs.Prelude.{nat_le}
+use Rattle.std.proofs.lemmas.Bool.{le-leb}
 use Rattle.std.proofs.lemmas.Bool.Decides.{nat_tests}
 use Rattle.std.proofs.lemmas.List.{append-nil, length-append, take-append-le, take_all, take_at, length-take-le}
 use Rattle.unit_registry.specs.declared.act.Act.{Act as Acts}
@@ -14,7 +15,8 @@ use Rattle.connection_core.specs.Answers.{acts_of, request_places, block_answer}
 use Rattle.connection_core.specs.Alone.{alone, is_longer, own_answers, stopped_behind, entered_blocks, goes_by, solo}
 use Rattle.connection_core.specs.Ends.{whole_course}
 use Rattle.modmap.specs.Ladder.{so_far, Course, last_done}
-use Rattle.modmap.proofs.Answering.{own_answers-push, acts-append, acts_alone, acts_behind, alone-append, stops_behind}
+use Rattle.connection_core.proofs.Enterings.{acts-append}
+use Rattle.modmap.proofs.Answering.{own_answers-push, acts_alone, acts_behind, alone-append, stops_behind}
 
 compared : (n m : ℕ) → (n ≤ m) ⊎ (m < n)
 compared zero m = inl (omega arith)
@@ -38,9 +40,6 @@ course_push project entered block written more course next =
         let front = course.fronts n in
         (front.0, ap (own_answers project) (take-append-le n entered (block ∷ []) less) ∙ front.1, omega (arith, front.2, length-append written more))
     by n whole (inr more_than) = (written ++ more, ap (own_answers project) (take_all n (entered ++ block ∷ []) (omega (arith, more_than, length-append entered (block ∷ [])))) ∙ whole, omega arith)
-
-le_true : (m n : ℕ) → m ≤ n → nat_le m n ≡ true
-le_true m n h = grind (arith, nat_tests)
 
 not_longer : (answer : Option (List ℕ)) (front written : List ℕ) → answer ≡ Some front → length front ≤ length written → is_longer answer written ≡ false
 not_longer answer front written is few = ap (λ text. is_longer text written) is ∙ grind (arith, nat_tests)
@@ -84,7 +83,7 @@ fits_all asked limit fits = take_all (limit - 3) asked (omega (arith, fits))
 pub solo_closed : (project : ProjectView) (limit : ℕ) (read written : List ℕ) → length (acts project (taken read)) + 3 ≤ limit → gone (acts project (taken read)) act.Left ≡ solo project limit read written 0
 solo_closed project limit read written fits =
     let asked : List Acts = acts project (taken read) in
-    let all : nat_le (length asked) (limit - 3) ≡ true = le_true (length asked) (limit - 3) (omega (arith, fits)) in
+    let all : nat_le (length asked) (limit - 3) ≡ true = le-leb (length asked) (limit - 3) (omega (arith, fits)) in
     sym (ap (λ (front : List Acts). alone (act.Open ∷ front ++ goes_by 0 (nat_le (length asked) (limit - 3)) ∷ []) ++ last_done ∷ []) (fits_all asked limit fits)
     ∙ ap (λ b. alone (act.Open ∷ asked ++ goes_by 0 b ∷ []) ++ last_done ∷ []) all)
 

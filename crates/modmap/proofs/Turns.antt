@@ -1,14 +1,14 @@
 -- One read, and what is made of it.
-use Rattle.std.proofs.Common.{◌≡◌, ℕ, zero, suc, List, [], ◌∷◌, ◌++◌, length, take, refl, sym, ap, subst, ◌∙◌, append_assoc, arith, Option, Some, None, Ok}
-use Rattle.std.proofs.lemmas.List.{append-nil, length-append}
+use Rattle.std.proofs.Common.{◌≡◌, ◌≢◌, ℕ, zero, suc, List, [], ◌∷◌, ◌++◌, length, take, refl, sym, ap, subst, ◌∙◌, append_assoc, arith, Option, Some, None, Ok}
+use Rattle.std.proofs.lemmas.List.{append-nil, length-append, nil_from_length}
 use Rattle.mm_outside.specs.Octets.{Octets, Reads}
 use Rattle.mm_outside.specs.declared.errors.Failed.{Failed}
 use Rattle.cody_batches.specs.Blocks.{blocks, held, taken, PassesLimits}
 use Rattle.cody_batches.proofs.LimitLaws.{taken_whole, within_limits}
 use Rattle.unit_registry.specs.Projects.{ProjectView}
 use Rattle.std.specs.Prelude.{Result, IfOk}
+use Rattle.mm_outside.specs.Causes.{Rose}
 use Rattle.std.proofs.lemmas.List.FromFn.{length-range_with_len}
-use Rattle.mm_outside.specs.declared.errors.Memory.{Memory}
 use Rattle.unit_registry.specs.declared.act.Act.{Act as Acts}
 use Rattle.unit_registry.specs.declared.act.Act.TheVariants.{Open}
 use Rattle.histories.specs.declared.entry.Entry.{Entry}
@@ -19,8 +19,8 @@ use Rattle.connection_core.specs.declared.block_reader.Stage.{Stage}
 use Rattle.connection_core.specs.declared.block_reader.Stage.TheVariants as stage
 use Rattle.connection_core.specs.Standing.{end_in}
 use Rattle.connection_core.specs.declared.conn_end.ConnEnd.{ConnEnd}
-use Rattle.connection_core.specs.declared.conn_end.ConnEnd.TheVariants.{ReadFault}
-use Rattle.connection_core.specs.Ends.{last_of}
+use Rattle.connection_core.specs.declared.conn_end.ConnEnd.TheVariants.{ReadFault, WriteFault}
+use Rattle.connection_core.specs.Ends.{HasCauses, last_of}
 use Rattle.connection_core.specs.Sessions.{SessionState, StandsAfter, IsIdle, ended}
 use Rattle.connection_core.specs.Taking.{end_holding}
 use Rattle.modmap.specs.Serving.{Moves}
@@ -117,7 +117,7 @@ module _ {Item Held : Type 0} (project : ProjectView) (limit : ℕ) where
 -- one more entry of a desk that tells all
 pub adds_one : {Held : Type 0} (before after : DeskState Held) (newest : Entry) (place : ℕ) → TellsAll before → TellsAll after → Adds before newest place after → after.seen.entries ≡ before.seen.entries ++ newest ∷ []
 adds_one before after newest place tells tells_after adds =
-    adds.history ∙ ap (λ (xs : List Entry). (before.seen.entries ++ xs) ++ newest ∷ []) (none adds.since size) ∙ ap (λ (xs : List Entry). xs ++ newest ∷ []) (append-nil before.seen.entries)
+    adds.history ∙ ap (λ (xs : List Entry). (before.seen.entries ++ xs) ++ newest ∷ []) (nil_from_length adds.since size) ∙ ap (λ (xs : List Entry). xs ++ newest ∷ []) (append-nil before.seen.entries)
   where
     after_size : length after.places ≡ length after.seen.entries
     after_size = ap length tells_after.places ∙ length-range_with_len 0 (length after.seen.entries)
@@ -127,10 +127,6 @@ adds_one before after newest place tells tells_after adds =
 
     size : length adds.since ≡ 0
     size = omega (arith, after_size, before_size, ap length adds.places, length-append before.places (place ∷ []), ap length adds.history, length-append (before.seen.entries ++ adds.since) (newest ∷ []), length-append before.seen.entries adds.since)
-
-    none : (xs : List Entry) → length xs ≡ 0 → xs ≡ []
-    none [] e = refl
-    none (x ∷ xs) e = absurd (omega (arith, e))
 
 pub left_is : {Held : Type 0} (project : ProjectView) (limit : ℕ) (how : ConnEnd) (desk left done : DeskState Held) (last : Acts) (place other : ℕ) (a b : Octets) → TellsAll desk → TellsAll left → TellsAll done → last ≡ last_of how → Adds desk (entry 0 last) place left → Adds left last_done other done
     → Served project limit how desk a b → Left project limit how done.seen.entries a b
@@ -153,5 +149,25 @@ ready_anew s project h going idle none zero_is = record { reading = by s.reader.
     by stage.Waiting e = absurd (idle e)
     by (stage.Ended how) e = let ended_is : ended s ≡ Some how = ap end_in e in absurd cc
 
-pub same_end : (how end : ConnEnd) → ◌≡◌ {A = Result ConnEnd Memory} (Ok how) (Ok end) → how ≡ end
-same_end how end e = cc
+-- ---- faults
+
+no_end : (how : ConnEnd) → None ≡ Some how → ⊥
+no_end how e = cc
+
+module _ (how : ConnEnd) (reads_before reads_mid reads_now writes_before writes_mid writes_now : ℕ) where
+  -- what one turn tells of its faults is so of all of them, where those before it had none
+  pub causes_since : reads_mid ≡ reads_before → writes_mid ≡ writes_before → (Some how ≡ Some ReadFault → Rose reads_mid reads_now) → (Some how ≡ Some WriteFault → Rose writes_mid writes_now)
+      → (Some how ≢ Some ReadFault → reads_now ≡ reads_mid) → (Some how ≢ Some WriteFault → writes_now ≡ writes_mid) → HasCauses reads_before reads_now writes_before writes_now how
+  causes_since reads writes read write read_kept write_kept = record {
+    read = λ e. subst (λ before. Rose before reads_now) reads (read (ap Some e));
+    write = λ e. subst (λ before. Rose before writes_now) writes (write (ap Some e));
+    read_kept = λ other. read_kept (λ e. other (same how ReadFault e)) ∙ reads;
+    write_kept = λ other. write_kept (λ e. other (same how WriteFault e)) ∙ writes;
+  }
+    where
+      same : (a b : ConnEnd) → Some a ≡ Some b → a ≡ b
+      same a b e = cc
+
+-- a turn that comes to no end has no fault
+pub still_kept : (how : ConnEnd) (result : Option ConnEnd) (before now : ℕ) → result ≡ None → (result ≢ Some how → now ≡ before) → now ≡ before
+still_kept how result before now none kept = kept (λ e. no_end how (sym none ∙ e))

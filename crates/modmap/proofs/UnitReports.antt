@@ -1,5 +1,6 @@
 -- What holds of a report on the units of a project, by its ending.
 use Rattle.std.proofs.Common.{◌≡◌, ◌≢◌, ◌⊎◌, inl, inr, ℕ, ◌≤◌, ◌<◌, Bool, true, false, List, length, map, Option, Some, None, Err, refl, sym, ap, subst, ◌∙◌, arith}
+use Rattle.std.proofs.lemmas.Option.{none-some}
 use Rattle.std.specs.Prelude.{IsSomeAnd, String, string_bytes, if◌then◌else◌}
 use Rattle.std.specs.declared.alloc.Global.{Global}
 use Rattle.mm_outside.specs.Causes.{Rose}
@@ -11,77 +12,23 @@ use Rattle.export_lists.specs.declared.cmi.Cmi.{Cmi}
 use Rattle.export_lists.specs.CmiFaults.{IsCmiText}
 use Rattle.export_lists.proofs.CmiLaws.{no_fault, one_cmi}
 use Rattle.modmap.specs.Commands.{ListUnits, AsksFor}
-use Rattle.modmap.specs.Endings.{Report, Ended, BadWords, OutOfMemory, CannotRead, FileTooLong, Refused, Served, Reported, Cut, WriteFailed, EndsIn, HasSinkCause, status_of}
-use Rattle.modmap.specs.ProjectFiles.{DeclaresProject, IsOfFile, IsReadAs}
+use Rattle.modmap.specs.Endings.{Ended, BadWords, OutOfMemory, CannotRead, FileTooLong, Refused, Served, Reported, Cut, WriteFailed, HasSinkCause, status_of}
+use Rattle.modmap.specs.ProjectFiles.{DeclaresProject, IsReadAs}
 use Rattle.modmap.specs.ListRuns.{HoldsWithin, HoldUnits, HoldsAll, IsNoCmiOf, Stay, StopsAt, ListsSo, reported, refused, no_memory, unreadable, too_long, RefusesList, RefusesUnit, as_file, as_cmi, not_a_cmi, other_unit, file_by, most_by, unit_file, most_cmi_octets}
 use Rattle.modmap.specs.Running.{LacksFile}
 use Rattle.modmap.proofs.Complete.{not_refused, same_project, same_some}
-
--- ---- statuses
-
--- the status of a report
-abbrev status_by : Bool → ℕ
-status_by good = if good then 0 else 1
-
-report_status : (good : Bool) → (status_by good ≡ 0) ⊎ (status_by good ≡ 1)
-report_status true = inl refl
-report_status false = inr refl
-
--- an ending with a report has status 0, 1 or 5, the last where it was cut short
-in_report : (report : Report) (ended : Ended) → EndsIn report ended → (status_of ended ≡ 0) ⊎ ((status_of ended ≡ 1) ⊎ ((status_of ended ≡ 5) × (ended ≡ Cut report)))
-in_report report ended (inl e) = by (report_status report.good)
-  where
-    by : (status_of (Reported report) ≡ 0) ⊎ (status_of (Reported report) ≡ 1) → (status_of ended ≡ 0) ⊎ ((status_of ended ≡ 1) ⊎ ((status_of ended ≡ 5) × (ended ≡ Cut report)))
-    by (inl zero_is) = inl (ap status_of e ∙ zero_is)
-    by (inr one) = inr (inl (ap status_of e ∙ one))
-in_report report ended (inr e) = inr (inr (ap status_of e, e))
-
--- an ending that a file brings has status 3, 4 or 6
-of_file : (ended : Ended) → IsOfFile ended → (status_of ended ≡ 3) ⊎ ((status_of ended ≡ 4) ⊎ (status_of ended ≡ 6))
-of_file BadWords kind = absurd kind
-of_file OutOfMemory kind = inl refl
-of_file (CannotRead named) kind = inr (inl refl)
-of_file (FileTooLong named) kind = inr (inr refl)
-of_file (Refused named line reason) kind = inr (inr refl)
-of_file (Served how) kind = absurd kind
-of_file (Reported report) kind = absurd kind
-of_file (Cut report) kind = absurd kind
-of_file WriteFailed kind = absurd kind
-
--- one number isn't two
-differ : (n a b : ℕ) → (a ≡ b → ⊥) → n ≡ a → n ≡ b → ⊥
-differ n a b apart e d = apart (sym e ∙ d)
+use Rattle.modmap.proofs.Statuses.{differ, file_never, report_cut, report_never, report_whole}
 
 module _ (failed : Type 0) (before now : Option Lookup) (name : List ℕ) where
   -- it never ends as words of no form do
   pub list_two : (ended : Ended) → ListsSo failed before now name ended → status_of ended ≢ 2
-  list_two ended (reported project sources built outcomes told listing ends) two = by (in_report _ ended ends)
-    where
-      by : {X : Type 0} → (status_of ended ≡ 0) ⊎ ((status_of ended ≡ 1) ⊎ ((status_of ended ≡ 5) × X)) → ⊥
-      by (inl e) = omega (arith, e, two)
-      by (inr (inl e)) = omega (arith, e, two)
-      by (inr (inr both)) = differ (status_of ended) 5 2 (λ e. omega (arith, e)) both.0 two
-  list_two ended (refused kind told) two = by (of_file ended kind)
-    where
-      by : (status_of ended ≡ 3) ⊎ ((status_of ended ≡ 4) ⊎ (status_of ended ≡ 6)) → ⊥
-      by (inl e) = omega (arith, e, two)
-      by (inr (inl e)) = omega (arith, e, two)
-      by (inr (inr e)) = omega (arith, e, two)
+  list_two ended (reported project sources built outcomes told listing ends) two = report_never _ ended 2 ends (λ e. omega (arith, e)) (λ e. omega (arith, e)) (λ e. omega (arith, e)) two
+  list_two ended (refused kind told) two = file_never ended 2 kind (λ e. omega (arith, e)) (λ e. omega (arith, e)) (λ e. omega (arith, e)) two
 
   -- why it ends with 5
   pub list_five : (ended : Ended) (b n : ℕ) → ListsSo failed before now name ended → HasSinkCause ended b n → status_of ended ≡ 5 → Rose b n
-  list_five ended b n (reported project sources built outcomes told listing ends) cause five = by _ (in_report _ ended ends)
-    where
-      by : (report : Report) → (status_of ended ≡ 0) ⊎ ((status_of ended ≡ 1) ⊎ ((status_of ended ≡ 5) × (ended ≡ Cut report))) → Rose b n
-      by report (inl e) = absurd (differ (status_of ended) 0 5 (λ d. omega (arith, d)) e five)
-      by report (inr (inl e)) = absurd (differ (status_of ended) 1 5 (λ d. omega (arith, d)) e five)
-      by report (inr (inr both)) = subst (λ e. HasSinkCause e b n) both.1 cause
-  list_five ended b n (refused kind told) cause five = absurd (by (of_file ended kind))
-    where
-      by : (status_of ended ≡ 3) ⊎ ((status_of ended ≡ 4) ⊎ (status_of ended ≡ 6)) → ⊥
-      by (inl e) = differ (status_of ended) 3 5 (λ d. omega (arith, d)) e five
-      by (inr (inl e)) = differ (status_of ended) 4 5 (λ d. omega (arith, d)) e five
-      by (inr (inr e)) = differ (status_of ended) 6 5 (λ d. omega (arith, d)) e five
+  list_five ended b n (reported project sources built outcomes told listing ends) cause five = report_cut _ ended b n ends cause five
+  list_five ended b n (refused kind told) cause five = absurd (file_never ended 5 kind (λ e. omega (arith, e)) (λ e. omega (arith, e)) (λ e. omega (arith, e)) five)
 
   -- no file changes
   pub list_stays : (ended : Ended) → ListsSo failed before now name ended → Told (λ (old new : Lookup). new ≡ old) before now
@@ -110,12 +57,7 @@ module _ (failed : Type 0) (before now : Option Lookup) (name : List ℕ) where
 
   -- why it ends with 4
   pub list_four : (words : List (String Global)) (ended : Ended) → AsksFor (map string_bytes words) (ListUnits name) → ListsSo failed before now name ended → status_of ended ≡ 4 → LacksFile words before ⊎ failed
-  list_four words ended asks (reported project sources built outcomes told listing ends) four = absurd (by (in_report _ ended ends))
-    where
-      by : {X : Type 0} → (status_of ended ≡ 0) ⊎ ((status_of ended ≡ 1) ⊎ ((status_of ended ≡ 5) × X)) → ⊥
-      by (inl e) = differ (status_of ended) 0 4 (λ d. omega (arith, d)) e four
-      by (inr (inl e)) = differ (status_of ended) 1 4 (λ d. omega (arith, d)) e four
-      by (inr (inr both)) = differ (status_of ended) 5 4 (λ d. omega (arith, d)) both.0 four
+  list_four words ended asks (reported project sources built outcomes told listing ends) four = absurd (report_never _ ended 4 ends (λ e. omega (arith, e)) (λ e. omega (arith, e)) (λ e. omega (arith, e)) four)
   list_four words ended asks (refused kind told) four = by before now told
     where
       project_lacks : (content : Lookup) → (content name ≡ None) ⊎ failed → LacksFile words (Some content) ⊎ failed
@@ -142,9 +84,6 @@ module _ (failed : Type 0) (before now : Option Lookup) (name : List ℕ) where
       by (Some content) (Some new) told = files content told.so.so
 
 -- ---- files that are there
-
-no_text : (text : List ℕ) → None ≡ Some text → ⊥
-no_text text e = cc
 
 beyond : (most m n : ℕ) → m ≡ n → m ≤ most → most < n → ⊥
 beyond most m n e le lt = omega (arith, e, le, lt)
@@ -181,7 +120,7 @@ module _ (failed : Type 0) (none : failed → ⊥) where
     -- a unit's file that is there is taken, unless memory runs out
     unit_taken : (ended : Ended) → RefusesUnit failed project unit content ended → ended ≡ OutOfMemory
     unit_taken ended (as_file (no_memory is)) = is
-    unit_taken ended (as_file (unreadable is (inl absent))) = let there = file_there (is_built project unit) refl in absurd (no_text there.0 (sym absent ∙ there.1.held))
+    unit_taken ended (as_file (unreadable is (inl absent))) = let there = file_there (is_built project unit) refl in absurd (none-some there.0 (sym absent ∙ there.1.held))
     unit_taken ended (as_file (unreadable is (inr fault))) = absurd (none fault)
     unit_taken ended (as_file (too_long text is held above)) =
         let there = file_there (is_built project unit) refl in
@@ -203,10 +142,5 @@ module _ (failed : Type 0) (none : failed → ⊥) where
   -- where all files are there and are taken, and no write fails, the report is printed whole
   pub list_whole : (name : List ℕ) (before now : Option Lookup) (ended : Ended) (b n : ℕ) → (Rose b n → ⊥) → HasSinkCause ended b n → IsSomeAnd before (HoldsAll name) → ListsSo failed before now name ended
       → (status_of ended ≡ 0) ⊎ ((status_of ended ≡ 1) ⊎ (status_of ended ≡ 3))
-  list_whole name before now ended b n stood cause known (reported project sources built outcomes told listing ends) = by _ (in_report _ ended ends)
-    where
-      by : (report : Report) → (status_of ended ≡ 0) ⊎ ((status_of ended ≡ 1) ⊎ ((status_of ended ≡ 5) × (ended ≡ Cut report))) → (status_of ended ≡ 0) ⊎ ((status_of ended ≡ 1) ⊎ (status_of ended ≡ 3))
-      by report (inl e) = inl e
-      by report (inr (inl e)) = inr (inl e)
-      by report (inr (inr both)) = absurd (stood (subst (λ e. HasSinkCause e b n) both.1 cause))
+  list_whole name before now ended b n stood cause known (reported project sources built outcomes told listing ends) = report_whole _ ended b n ends cause stood
   list_whole name before now ended b n stood cause known (refused kind told) = inr (inr (ap status_of (told_taken name ended before now known told)))

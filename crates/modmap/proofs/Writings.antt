@@ -6,11 +6,8 @@ use Rattle.mm_outside.specs.Files.{Lookup}
 use Rattle.mm_outside.specs.Told.{Told}
 use Rattle.mm_outside.proofs.ToldLemmas.{Told-map}
 use Rattle.modmap.specs.Endings.{Ended, HasSinkCause, status_of}
+use Rattle.modmap.proofs.Statuses.{differ}
 use Rattle.modmap.specs.Generating.{NamedText, GeneratesSo, all_written, write_stopped, none_written, generated_files}
-
--- a status isn't two numbers
-differ : (n a b : ℕ) → (a ≡ b → ⊥) → n ≡ a → n ≡ b → ⊥
-differ n a b apart e d = apart (sym e ∙ d)
 
 module _ (failed : Type 0) (before now : Option Lookup) (folder : List ℕ) (units seed : ℕ) where
   -- its statuses are 0, 3 and 5, the last where a write failed
@@ -26,6 +23,11 @@ module _ (failed : Type 0) (before now : Option Lookup) (folder : List ℕ) (uni
   gen_never ended status (all_written told (inr e)) zero_not three_not five_not is = five_not (sym (ap status_of e) ∙ is)
   gen_never ended status (write_stopped told fault e) zero_not three_not five_not is = five_not (sym (ap status_of e) ∙ is)
   gen_never ended status (none_written told e) zero_not three_not five_not is = three_not (sym (ap status_of e) ∙ is)
+
+  -- where it ends with 0 or 1, it ends with 0
+  pub gen_zero : (ended : Ended) (status : ℕ) → status ≡ status_of ended → GeneratesSo failed before now folder units seed ended → (status ≡ 0) ⊎ (status ≡ 1) → status ≡ 0
+  gen_zero ended status is h (inl done) = done
+  gen_zero ended status is h (inr one) = absurd (gen_never ended 1 h (λ e. omega (arith, e)) (λ e. omega (arith, e)) (λ e. omega (arith, e)) (sym is ∙ one))
 
   -- why it ends with 5
   pub gen_five : (ended : Ended) (b n : ℕ) → GeneratesSo failed before now folder units seed ended → HasSinkCause ended b n → status_of ended ≡ 5 → failed ⊎ Rose b n

@@ -1,5 +1,5 @@
 -- The words behind `gen` and behind `list`.
-use Rattle.std.specs.Prelude.{◌≡◌, ℕ, ◌≤◌, ◌==◌, Bool, not, ◌&&◌, nat_le, true, List, [], ◌∷◌, length, decimal}
+use Rattle.std.specs.Prelude.{◌≡◌, ℕ, ◌≤◌, ◌==◌, Bool, not, ◌&&◌, nat_le, List, length, decimal}
 use Rattle.std.specs.List.{list_all}
 use Rattle.header_units.specs.Octets.{is_path_octet}
 
@@ -16,16 +16,3 @@ longest_folder = 400
 -- whether the word may be a folder: not empty, not too long, and no octet of it below 0x20 or 0x7f
 abbrev pub is_folder : List ℕ → Bool
 is_folder word = not (length word == 0) && nat_le (length word) longest_folder && list_all is_path_octet word
-
--- the words behind `gen`: FOLDER UNITS SEED, with UNITS from 1 to 2,000 and SEED up to 2,147,483,647
-pub record AsksGen (words : List (List ℕ)) (folder : List ℕ) (units seed : ℕ) : Type 0 where
-  pub units_word : List ℕ
-  pub seed_word : List ℕ
-  pub words_are : words ≡ folder ∷ units_word ∷ seed_word ∷ []
-  pub folder_is : is_folder folder ≡ true
-  pub units_are : IsNumberWithin 1 2000 units_word units
-  pub seed_is : IsNumberWithin 0 2147483647 seed_word seed
-
--- the words behind `list`: PROJECT
-pub record AsksList (words : List (List ℕ)) (project : List ℕ) : Type 0 where
-  pub words_are : words ≡ project ∷ []

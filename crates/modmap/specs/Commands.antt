@@ -1,7 +1,7 @@
 -- The commands, as words of the command line.
-use Rattle.std.specs.Prelude.{◌≡◌, ℕ, ◌≤◌, List, [], ◌∷◌, map, String, string_bytes, codes, decimal}
+use Rattle.std.specs.Prelude.{◌≡◌, ℕ, true, List, [], ◌∷◌, map, String, string_bytes, codes}
 use Rattle.std.specs.declared.alloc.Global.{Global}
-use Rattle.modmap.specs.Askings.{AsksGen, AsksList}
+use Rattle.modmap.specs.Askings.{IsNumberWithin, is_folder}
 use Rattle.modmap.specs.declared.command.Command.{Command}
 use Rattle.modmap.specs.declared.command.Command.TheVariants as command
 use Rattle.modmap.specs.declared.verb.Verb.{Verb}
@@ -25,16 +25,10 @@ task_of (command.Replay project trace) = Replay project.now trace.now
 task_of (command.List project) = ListUnits project.now
 task_of (command.Gen folder units seed) = Generate folder.now units seed
 
--- the word spells a number of entries that a history may have at most
-pub record IsEntries (word : List ℕ) (entries : ℕ) : Type 0 where
-  pub decimal_is : word ≡ decimal entries
-  pub at_least : 3 ≤ entries
-  pub at_most : entries ≤ 1048576
-
 -- the words behind `pipe`: PROJECT [ENTRIES], where ENTRIES is else 65,536
 pub data AsksPipe (words : List (List ℕ)) (task : Task) : Type 0 where
   usual : (project : List ℕ) → words ≡ project ∷ [] → task ≡ Pipe project 65536 → AsksPipe words task
-  counted : (project word : List ℕ) (entries : ℕ) → words ≡ project ∷ word ∷ [] → IsEntries word entries → task ≡ Pipe project entries → AsksPipe words task
+  counted : (project word : List ℕ) (entries : ℕ) → words ≡ project ∷ word ∷ [] → IsNumberWithin 3 1048576 word entries → task ≡ Pipe project entries → AsksPipe words task
 
 -- the words are PROJECT TRACE, of this task
 pub record AsksOfTrace (asks : List ℕ → List ℕ → Task) (words : List (List ℕ)) (task : Task) : Type 0 where
@@ -46,15 +40,20 @@ pub record AsksOfTrace (asks : List ℕ → List ℕ → Task) (words : List (Li
 -- the words are PROJECT, of the task to report on its units
 pub record AsksToList (words : List (List ℕ)) (task : Task) : Type 0 where
   pub project : List ℕ
-  pub asks : AsksList words project
+  pub words_are : words ≡ project ∷ []
   pub task_is : task ≡ ListUnits project
 
--- the words are FOLDER UNITS SEED, of the task to generate so
+-- the words are FOLDER UNITS SEED, with UNITS from 1 to 2,000 and SEED up to 2,147,483,647, of the task to generate so
 pub record AsksToGenerate (words : List (List ℕ)) (task : Task) : Type 0 where
   pub folder : List ℕ
+  pub units_word : List ℕ
+  pub seed_word : List ℕ
   pub units : ℕ
   pub seed : ℕ
-  pub asks : AsksGen words folder units seed
+  pub words_are : words ≡ folder ∷ units_word ∷ seed_word ∷ []
+  pub folder_is : is_folder folder ≡ true
+  pub units_are : IsNumberWithin 1 2000 units_word units
+  pub seed_is : IsNumberWithin 0 2147483647 seed_word seed
   pub task_is : task ≡ Generate folder units seed
 
 -- the word of a verb
@@ -79,6 +78,10 @@ pub record AsksFor (words : List (List ℕ)) (task : Task) : Type 0 where
   pub rest : List (List ℕ)
   pub words_are : words ≡ verb_text first ∷ rest
   pub asked : AsksAs first rest task
+
+-- the words ask for nothing that the program does
+abbrev pub AsksNothing : List (String Global) → Type 0
+AsksNothing words = (task : Task) → AsksFor (map string_bytes words) task → ⊥
 
 -- the first word is `pipe`
 abbrev pub BeginsWithPipe : List (String Global) → Type 0

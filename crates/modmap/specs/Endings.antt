@@ -14,8 +14,8 @@ pub record Report : Type 0 where
   pub text : List ℕ
   pub good : Bool
 
--- how a run of the program ends: by a message, by a report that was printed whole, or by one that was cut short; `WriteFailed`
--- says that a file couldn't be written
+-- how a run of the program ends: by a message, by a report that was printed whole, or by one that was cut short;
+-- `WriteFailed` says that a file couldn't be written
 pub data Ended : Type 0 where
   BadWords : Ended
   OutOfMemory : Ended
@@ -90,6 +90,10 @@ message_of WriteFailed = codes "modmap: write failed\n"
 abbrev pub frame_room : ℕ
 frame_room = 60
 
+-- the octets that the reason of a project file's first fault has at most
+abbrev pub reason_room : ℕ
+reason_room = 20
+
 -- room enough for the message of an ending
 abbrev pub message_room : Ended → ℕ
 message_room BadWords = frame_room
@@ -121,26 +125,39 @@ Speaks (Reported report) faults_before faults_now old new = new ≡ old ++ repor
 Speaks (Cut report) faults_before faults_now old new = IsCut report.text old new
 Speaks ended faults_before faults_now old new = Prints (message_of ended) faults_before faults_now old new
 
--- a report is cut short only where a write failed
+-- a report is cut short only where a write failed, and stands whole only where none did
 abbrev pub HasSinkCause : Ended → ℕ → ℕ → Type 0
+HasSinkCause (Reported report) faults_before faults_now = faults_now ≡ faults_before
 HasSinkCause (Cut report) faults_before faults_now = Rose faults_before faults_now
 HasSinkCause ended faults_before faults_now = Unit {0}
 
--- The message of the ending was printed, unless memory ran out before it could be, which ends the run in another way.
-pub record Tells (ended : Ended) (faults_before faults_now : ℕ) (out_before out_now : Option (List ℕ)) (status : ℕ) : Type 0 where
+-- what a sink tells before and after a call, and how often its writes have failed
+pub record Output : Type 0 where
+  pub before : Option (List ℕ)
+  pub now : Option (List ℕ)
+  pub faults_before : ℕ
+  pub faults_now : ℕ
+
+-- what a sink tells and how often its writes have failed, as it was before a call and as it is behind it
+abbrev pub output_of : {K : Type 0} → (K → Option (List ℕ)) → (K → ℕ) → K → K → Output
+output_of written faults old new = record { before = written old; now = written new; faults_before = faults old; faults_now = faults new }
+
+-- a call ended with this status and printed what belongs to its ending, of which this is so
+pub record Ends (IsSo : Ended → Type 0) (output : Output) (status : ℕ) : Type 0 where
   pub ending : Ended
-  pub ending_is : (ending ≡ ended) ⊎ (ending ≡ OutOfMemory)
   pub status_is : status ≡ status_of ending
-  pub message : Told (Prints (message_of ending) faults_before faults_now) out_before out_now
+  pub spoken : Told (Speaks ending output.faults_before output.faults_now) output.before output.now
+  pub cause : HasSinkCause ending output.faults_before output.faults_now
+  pub so : IsSo ending
+
+-- The message of the ending was printed, unless memory ran out before it could be, which ends the run in another way.
+abbrev pub Tells : Ended → Output → ℕ → Type 0
+Tells ended output status = Ends (λ ending. (ending ≡ ended) ⊎ (ending ≡ OutOfMemory)) output status
 
 -- an ending with a report, printed whole or cut short
 abbrev pub EndsIn : Report → Ended → Type 0
 EndsIn report ended = (ended ≡ Reported report) ⊎ (ended ≡ Cut report)
 
 -- The report was printed, whole or up to a write that failed.
-pub record Issues (report : Report) (faults_before faults_now : ℕ) (out_before out_now : Option (List ℕ)) (status : ℕ) : Type 0 where
-  pub ending : Ended
-  pub ending_is : EndsIn report ending
-  pub status_is : status ≡ status_of ending
-  pub spoken : Told (Speaks ending faults_before faults_now) out_before out_now
-  pub cause : HasSinkCause ending faults_before faults_now
+abbrev pub Issues : Report → Output → ℕ → Type 0
+Issues report output status = Ends (EndsIn report) output status

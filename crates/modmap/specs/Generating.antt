@@ -1,12 +1,11 @@
 -- What `gen` comes to: the files of a generated project, written one after another.
 use Rattle.std.specs.Prelude.{◌≡◌, ◌≢◌, ℕ, suc, ◌+◌, ◌<◌, true, List, [], ◌∷◌, ◌++◌, All, length, take, Option, Some, Result, Ok, Err, codes, decimal}
-use Rattle.mm_outside.specs.Causes.{Rose}
 use Rattle.mm_outside.specs.Files.{Lookup}
 use Rattle.mm_outside.specs.Told.{Told}
 use Rattle.cody_words.specs.Buffers.{Buffer}
 use Rattle.export_lists.specs.Generated.{numbered, generated}
 use Rattle.export_lists.specs.declared.generated.Generated.{Generated}
-use Rattle.modmap.specs.Endings.{Ended, OutOfMemory, WriteFailed, Report, EndsIn, IsCut, Prints}
+use Rattle.modmap.specs.Endings.{Ended, OutOfMemory, WriteFailed, Report, EndsIn}
 
 -- ---- the files
 
@@ -43,7 +42,8 @@ pub record HoldTexts (files : List NamedText) (before now : Lookup) : Type 0 whe
   pub held : All (λ file. now file.name ≡ Some file.text) files
   pub others : (name : List ℕ) → All (λ file. name ≢ file.name) files → now name ≡ before name
 
--- Writing stopped at one of the files: those before it hold their texts, it may hold anything, and no other name changed.
+-- Writing stopped at one of the files: those before it hold their texts, it may hold anything, and no other name
+-- changed.
 pub record StopsWithin (files : List NamedText) (before now : Lookup) : Type 0 where
   pub count : ℕ
   pub within : count < length files
@@ -69,34 +69,10 @@ wrote_report count = record { text = wrote_text count; good = true }
 abbrev pub capacity_of : Buffer → ℕ
 capacity_of buffer = buffer.spare + length buffer.octets
 
--- what files and a sink tell before and after a run, and how often their writes have failed
-pub record Written : Type 0 where
-  pub files_before : Option Lookup
-  pub files_now : Option Lookup
-  pub file_writes_before : ℕ
-  pub file_writes_now : ℕ
-  pub out_before : Option (List ℕ)
-  pub out_now : Option (List ℕ)
-  pub out_writes_before : ℕ
-  pub out_writes_now : ℕ
-
-module _ (outside : Written) where
-  -- this message was printed, or a part of it where the sink failed
-  abbrev pub Says : List ℕ → Type 0
-  Says text = Told (Prints text outside.out_writes_before outside.out_writes_now) outside.out_before outside.out_now
-
-  -- What `gen` comes to, by its status: all files were written and their number said; or they were, and the sink failed; or
-  -- a write of a file failed, and no further file was written; or memory was wanted, before any file was written.
-  pub data RunsGen (folder : List ℕ) (units seed : ℕ) (status : ℕ) : Type 0 where
-    wrote : status ≡ 0 → Told (HoldTexts (generated_files folder units seed)) outside.files_before outside.files_now → Told (λ before now. now ≡ before ++ wrote_text (units + 1)) outside.out_before outside.out_now → RunsGen folder units seed status
-    unsaid : status ≡ 5 → Told (HoldTexts (generated_files folder units seed)) outside.files_before outside.files_now → Told (IsCut (wrote_text (units + 1))) outside.out_before outside.out_now → Rose outside.out_writes_before outside.out_writes_now → RunsGen folder units seed status
-    stopped : status ≡ 5 → Told (StopsWithin (generated_files folder units seed)) outside.files_before outside.files_now → Rose outside.file_writes_before outside.file_writes_now → Says (codes "modmap: write failed\n") → RunsGen folder units seed status
-    no_memory : status ≡ 3 → Told (λ before now. now ≡ before) outside.files_before outside.files_now → Says (codes "modmap: out of memory\n") → RunsGen folder units seed status
-
 module _ (failed : Type 0) (before now : Option Lookup) where
-  -- What `gen` comes to, by its ending: all files were written, and it ends with the report of their number; or a write of a
-  -- file failed, and no further file was written; or memory was wanted, before any file was written. `failed` says that a
-  -- write of a file failed.
+  -- What `gen` comes to, by its ending: all files were written, and it ends with the report of their number; or a
+  -- write of a file failed, and no further file was written; or memory was wanted, before any file was written.
+  -- `failed` says that a write of a file failed.
   pub data GeneratesSo (folder : List ℕ) (units seed : ℕ) (ended : Ended) : Type 0 where
     all_written : Told (HoldTexts (generated_files folder units seed)) before now → EndsIn (wrote_report (units + 1)) ended → GeneratesSo folder units seed ended
     write_stopped : Told (StopsWithin (generated_files folder units seed)) before now → failed → ended ≡ WriteFailed → GeneratesSo folder units seed ended

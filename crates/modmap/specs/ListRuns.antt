@@ -1,6 +1,6 @@
 -- What `list` comes to: what the files of a project's units hold, and the report on them.
 use Rattle.std.specs.Prelude.{◌≡◌, ◌≢◌, ◌⊎◌, ℕ, suc, ◌<◌, ◌≤◌, Bool, true, false, List, ◌∷◌, ◌++◌, length, slice_get, Option, Some, None, Result, Ok, Err, codes, not}
-use Rattle.std.specs.List.{list_any}
+use Rattle.std.specs.List.{All, list_any}
 use Rattle.mm_outside.specs.Files.{Lookup}
 use Rattle.mm_outside.specs.Told.{Told}
 use Rattle.header_units.specs.Names.{name_kind}
@@ -19,7 +19,7 @@ use Rattle.modmap.specs.declared.unit_files.Stop.TheVariants as stop
 use Rattle.modmap.specs.declared.unit_files.Fault.{Fault}
 use Rattle.modmap.specs.declared.unit_files.Fault.TheVariants as fault
 use Rattle.modmap.specs.declared.unit_files.Gathered.{Gathered}
-use Rattle.modmap.specs.Endings.{Ended, OutOfMemory, CannotRead, FileTooLong, Refused, Report, EndsIn, Issues, Speaks, HasSinkCause, status_of}
+use Rattle.modmap.specs.Endings.{Ended, OutOfMemory, CannotRead, FileTooLong, Refused, Report, EndsIn, Issues, Output}
 use Rattle.modmap.specs.ProjectFiles.{DeclaresProject, IsOfFile, IsReadAs}
 
 -- ---- the files of units
@@ -72,13 +72,15 @@ pub record HoldsBuilt (project : ProjectView) (content : Lookup) (built : List C
   pub place : slice_get built (built_before project unit) ≡ Some cmi
   pub holds : HoldsCmi project content unit cmi
 
--- there is a source for each of the first so many units, and an interface for each of them that was built before
+-- There is a source for each of the first so many units, none longer than a source may be, and an interface for each of
+-- them that was built before.
 pub record Fit (project : ProjectView) (count : ℕ) (sources : List (List ℕ)) (built : List Cmi) : Type 0 where
   pub sources_fit : length sources ≡ count
+  pub short : All (λ text. length text ≤ most_source_octets) sources
   pub built_fit : length built ≡ built_before project count
 
--- The files of the first so many units hold these sources, and the texts of these interfaces. The source of a unit that was
--- built before says nothing.
+-- The files of the first so many units hold these sources, and the texts of these interfaces. The source of a unit
+-- that was built before says nothing.
 pub record HoldUnits (project : ProjectView) (content : Lookup) (count : ℕ) (sources : List (List ℕ)) (built : List Cmi) : Type 0 where
   pub fit : Fit project count sources built
   pub source : (unit : ℕ) → unit < count → is_built project unit ≡ false → HoldsSource project content sources unit
@@ -194,8 +196,8 @@ pub record HoldsProject (name : List ℕ) (project : ProjectView) (sources : Lis
   pub declares : DeclaresProject (content name) project
   pub holds : HoldUnits project content (unit_count project) sources built
 
--- Nothing hinders a report on the units of the project of this file: the file declares a project, and each unit's source is
--- there, or the text of its own interface.
+-- Nothing hinders a report on the units of the project of this file: the file declares a project, and each unit's
+-- source is there, or the text of its own interface.
 pub record HoldsAll (name : List ℕ) (content : Lookup) : Type 0 where
   pub project : ProjectView
   pub sources : List (List ℕ)
@@ -207,22 +209,14 @@ abbrev pub RefusesList : Type 0 → List ℕ → Ended → Lookup → Type 0
 RefusesList failed name ended content = IsReadAs failed name (Err ended) (content name) ⊎ ((project : ProjectView) × DeclaresProject (content name) project × StopsAt failed project content ended)
 
 -- what was printed on the outcomes of units that are made of these sources and interfaces: the report, or a part of it
-pub record ReportsOn (project : ProjectView) (sources : List (List ℕ)) (built : List Cmi) (faults_before faults_now : ℕ) (out_before out_now : Option (List ℕ)) (status : ℕ) : Type 0 where
+pub record ReportsOn (project : ProjectView) (sources : List (List ℕ)) (built : List Cmi) (output : Output) (status : ℕ) : Type 0 where
   pub outcomes : List Outcome
   pub listing : IsListing project sources built outcomes
-  pub issued : Issues (list_report project outcomes) faults_before faults_now out_before out_now status
+  pub issued : Issues (list_report project outcomes) output status
 
 module _ (failed : Type 0) (before now : Option Lookup) where
-  -- What `list` comes to, by its ending, and no file changed: a project is declared, and the report is that on the outcomes
-  -- of its units, as the files tell them; or a file isn't taken, or memory was wanted.
+  -- What `list` comes to, by its ending, and no file changed: a project is declared, and the report is that on the
+  -- outcomes of its units, as the files tell them; or a file isn't taken, or memory was wanted.
   pub data ListsSo (name : List ℕ) (ended : Ended) : Type 0 where
     reported : (project : ProjectView) (sources : List (List ℕ)) (built : List Cmi) (outcomes : List Outcome) → Told (Stay (HoldsProject name project sources built)) before now → IsListing project sources built outcomes → EndsIn (list_report project outcomes) ended → ListsSo name ended
     refused : IsOfFile ended → Told (Stay (RefusesList failed name ended)) before now → ListsSo name ended
-
-  -- `list` ended with this status, and printed what belongs to its ending
-  pub record RunsList (name : List ℕ) (faults_before faults_now : ℕ) (out_before out_now : Option (List ℕ)) (status : ℕ) : Type 0 where
-    pub ending : Ended
-    pub status_is : status ≡ status_of ending
-    pub spoken : Told (Speaks ending faults_before faults_now) out_before out_now
-    pub cause : HasSinkCause ending faults_before faults_now
-    pub lists : ListsSo name ending

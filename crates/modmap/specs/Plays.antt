@@ -1,6 +1,6 @@
 -- How a replay goes on with an entry: working definitions, and no part of what is printed.
 use Rattle.std.specs.Prelude.{◌≡◌, ℕ, ◌&&◌, ◌||◌, Bool, false, List, [], ◌∷◌, take, reverse, filter_map, flat_map, Option, Some, None, is_none, option_map}
-use Rattle.std.specs.Option.{option_map_or}
+use Rattle.std.specs.Option.{option_map_or, option_to_list}
 use Rattle.unit_registry.specs.declared.act.Act.{Act}
 use Rattle.unit_registry.specs.declared.act.Act.TheVariants.{Open, Import, Done}
 use Rattle.unit_registry.specs.Acts.{goes}
@@ -24,11 +24,6 @@ IsKind (kind.Leaves how) act = act ≡ leaving how
 IsKind kind.Ends act = act ≡ Done
 IsKind kind.Asks act = effect_of act ≡ Asks
 
--- the items, or none
-abbrev pub one_option : {A : Type 0} → Option A → List A
-one_option None = []
-one_option (Some x) = x ∷ []
-
 -- the reply that an import has
 abbrev pub found_in : LedgerView → Wait → Option Found
 found_in ledger wait = option_map (found_at wait.place) (reply_at ledger wait.place)
@@ -39,7 +34,7 @@ found_texts project ledger waiting = flat_map (found_text project) (filter_map (
 
 -- the line of a reply, if there is one
 abbrev pub option_text : ProjectView → ℕ → Option Answer → List ℕ
-option_text project place answer = flat_map (found_text project) (one_option (option_map (found_at place) answer))
+option_text project place answer = flat_map (found_text project) (option_to_list (option_map (found_at place) answer))
 
 -- whether an import waits
 abbrev pub waits_in : LedgerView → Wait → Bool

@@ -7,8 +7,8 @@ use Rattle.histories.specs.declared.illegal_reason.IllegalReason.{IllegalReason}
 use Rattle.histories.specs.Reasons.{illegal_text}
 use Rattle.histories.specs.Histories.{first_fault}
 use Rattle.trace_text.specs.declared.trace.Trace.{Trace}
-use Rattle.modmap.specs.Endings.{Report, Ended, BadWords, OutOfMemory, CannotRead, FileTooLong, Refused, Served, Reported, Cut, WriteFailed, Speaks, HasSinkCause, status_of}
-use Rattle.modmap.specs.ProjectFiles.{FindsProject}
+use Rattle.modmap.specs.Endings.{Report, Ended, OutOfMemory, EndsIn}
+use Rattle.modmap.specs.ProjectFiles.{FindsProject, IsOfFile}
 use Rattle.modmap.specs.declared.sources.Sources.{Sources}
 use Rattle.modmap.specs.TraceFiles.{FindsTrace}
 
@@ -57,30 +57,9 @@ module _ (failed : Type 0) (before now : Option Lookup) where
   FindsBoth project_name trace_name (Err OutOfMemory) = Told (λ (old new : Lookup). new ≡ old) before now
   FindsBoth project_name trace_name (Err ended) = Refuses project_name trace_name ended
 
-  -- both files were read, and this is reported of them
-  pub record IsReportOf (reports : ProjectView → Trace → Report) (project_name trace_name : List ℕ) (report : Report) : Type 0 where
-    pub project : ProjectView
-    pub trace : Trace
-    pub reads_project : Told (FindsProject failed project_name (Ok project)) before now
-    pub reads_trace : Told (FindsTrace failed trace_name (Ok trace)) before now
-    pub report_is : report ≡ reports project trace
-
-  -- what a report over a project file and a trace's comes to, by its ending
-  abbrev pub ReportsSo : (ProjectView → Trace → Report) → Ended → List ℕ → List ℕ → Type 0
-  ReportsSo reports BadWords project_name trace_name = ⊥
-  ReportsSo reports OutOfMemory project_name trace_name = Told (λ (old new : Lookup). new ≡ old) before now
-  ReportsSo reports (CannotRead named) project_name trace_name = Refuses project_name trace_name (CannotRead named)
-  ReportsSo reports (FileTooLong named) project_name trace_name = Refuses project_name trace_name (FileTooLong named)
-  ReportsSo reports (Refused named line reason) project_name trace_name = Refuses project_name trace_name (Refused named line reason)
-  ReportsSo reports (Served how) project_name trace_name = ⊥
-  ReportsSo reports (Reported report) project_name trace_name = IsReportOf reports project_name trace_name report
-  ReportsSo reports (Cut report) project_name trace_name = IsReportOf reports project_name trace_name report
-  ReportsSo reports WriteFailed project_name trace_name = ⊥
-
-  -- a command that reports on the two files ended with this status, and printed what belongs to its ending
-  pub record RunsReport (reports : ProjectView → Trace → Report) (project_name trace_name : List ℕ) (faults_before faults_now : ℕ) (out_before out_now : Option (List ℕ)) (status : ℕ) : Type 0 where
-    pub ending : Ended
-    pub status_is : status ≡ status_of ending
-    pub spoken : Told (Speaks ending faults_before faults_now) out_before out_now
-    pub cause : HasSinkCause ending faults_before faults_now
-    pub reports_so : ReportsSo reports ending project_name trace_name
+  -- What a report over a project file and a trace's comes to, by its ending: the report on what both files tell; or
+  -- one of them isn't taken; or memory was wanted, and no file changed.
+  pub data ReportsSo (reports : ProjectView → Trace → Report) (project_name trace_name : List ℕ) (ended : Ended) : Type 0 where
+    reported : (project : ProjectView) (trace : Trace) → Told (FindsProject failed project_name (Ok project)) before now → Told (FindsTrace failed trace_name (Ok trace)) before now → EndsIn (reports project trace) ended → ReportsSo reports project_name trace_name ended
+    refused : IsOfFile ended → Refuses project_name trace_name ended → ReportsSo reports project_name trace_name ended
+    no_memory : Told (λ (old new : Lookup). new ≡ old) before now → ended ≡ OutOfMemory → ReportsSo reports project_name trace_name ended

@@ -8,21 +8,19 @@ use Rattle.mm_outside.specs.Told.{Told}
 use Rattle.cody_batches.specs.Blocks.{blocks, held, PassesLimits}
 use Rattle.unit_registry.specs.Projects.{ProjectView}
 use Rattle.connection_core.specs.Asking.{acts}
+use Rattle.connection_core.specs.declared.conn_end.ConnEnd.{ConnEnd}
 use Rattle.connection_core.specs.Ends.{HasCauses}
 use Rattle.trace_text.specs.declared.trace.Trace.{Trace}
+pub use Rattle.modmap.specs.Commands.{AsksNothing}
 use Rattle.modmap.specs.Commands.{Task, Pipe, Check, Replay, ListUnits, Generate, AsksFor}
-use Rattle.modmap.specs.Endings.{Ended, BadWords, OutOfMemory, CannotRead, FileTooLong, Refused, Served, Reported, Cut, WriteFailed, Report, status_of, message_of, Prints, Speaks, HasSinkCause}
+use Rattle.modmap.specs.Endings.{Ended, BadWords, OutOfMemory, Served, Report, Output}
 use Rattle.modmap.specs.Generating.{GeneratesSo, generated_files}
 use Rattle.modmap.specs.ListRuns.{HoldsAll, IsUnitFile, ListsSo}
-use Rattle.modmap.specs.ProjectFiles.{DeclaresProject, FindsProject}
+use Rattle.modmap.specs.ProjectFiles.{DeclaresProject, FindsProject, IsOfFile}
 use Rattle.modmap.specs.Reports.{ReportsSo, check_report}
 use Rattle.modmap.specs.Replays.{replay_report}
 use Rattle.modmap.specs.Serving.{ServesAlone}
 use Rattle.modmap.specs.TraceFiles.{HoldsTrace}
-
--- the words ask for nothing that the program does
-abbrev pub AsksNothing : List (String Global) → Type 0
-AsksNothing words = (task : Task) → AsksFor (map string_bytes words) task → ⊥
 
 -- what files and a link tell before and after a run, and how often their reads and writes have failed
 pub record Outside (L : Type 0) : Type 0 where
@@ -40,15 +38,41 @@ pub record Outside (L : Type 0) : Type 0 where
   pub link_writes_before : ℕ
   pub link_writes_now : ℕ
 
+-- what files and a link tell and how often they have failed, as it was before a run and as it is behind it
+abbrev pub outside_of : {F L : Type 0} → (F → Option Lookup) → (F → ℕ) → (F → ℕ) → (L → Option Octets) → (L → ℕ) → (L → ℕ) → F → F → L → L → Outside L
+outside_of content file_reads file_writes octets link_reads link_writes files_old files_new link_old link_new = record {
+  octets = octets;
+  link_before = link_old;
+  link_now = link_new;
+  files_before = content files_old;
+  files_now = content files_new;
+  file_reads_before = file_reads files_old;
+  file_reads_now = file_reads files_new;
+  file_writes_before = file_writes files_old;
+  file_writes_now = file_writes files_new;
+  link_reads_before = link_reads link_old;
+  link_reads_now = link_reads link_new;
+  link_writes_before = link_writes link_old;
+  link_writes_now = link_writes link_new;
+}
+
 module _ {L : Type 0} (outside : Outside L) where
+  -- no read and no write of the files or of the link failed
+  pub record HasNoFault : Type 0 where
+    pub file_reads : outside.file_reads_now ≡ outside.file_reads_before
+    pub file_writes : outside.file_writes_now ≡ outside.file_writes_before
+    pub link_reads : outside.link_reads_now ≡ outside.link_reads_before
+    pub link_writes : outside.link_writes_now ≡ outside.link_writes_before
+
   -- the project file of this name was read as this
   abbrev pub ReadsProject : List ℕ → Result ProjectView Ended → Type 0
   ReadsProject name result = Told (FindsProject (Rose outside.file_reads_before outside.file_reads_now) name result) outside.files_before outside.files_now
 
-  -- the project file declares a project, and the link was served to this end
-  pub record ServesProject (name : List ℕ) (entries : ℕ) (how : Rattle.connection_core.specs.declared.conn_end.ConnEnd.ConnEnd) : Type 0 where
+  -- the project file declares a project, no read of it failed, and the link was served to this end
+  pub record ServesProject (name : List ℕ) (entries : ℕ) (how : ConnEnd) : Type 0 where
     pub project : ProjectView
     pub reads : ReadsProject name (Ok project)
+    pub reads_kept : outside.file_reads_now ≡ outside.file_reads_before
     pub serves : Told (ServesAlone project entries how) (outside.octets outside.link_before) (outside.octets outside.link_now)
     pub causes : HasCauses outside.link_reads_before outside.link_reads_now outside.link_writes_before outside.link_writes_now how
 
@@ -57,76 +81,43 @@ module _ {L : Type 0} (outside : Outside L) where
     pub files : Told (λ before now. now ≡ before) outside.files_before outside.files_now
     pub link : outside.link_now ≡ outside.link_before
 
-  -- the project file was read as this, and the link is as it was
-  pub record Refuses (name : List ℕ) (ended : Ended) : Type 0 where
-    pub reads : ReadsProject name (Err ended)
-    pub link : outside.link_now ≡ outside.link_before
-
-  -- what `pipe` with this project file and so many entries comes to, by its ending
-  abbrev pub Pipes : Ended → List ℕ → ℕ → Type 0
-  Pipes BadWords name entries = ⊥
-  Pipes OutOfMemory name entries = StaysAside
-  Pipes (CannotRead named) name entries = Refuses name (CannotRead named)
-  Pipes (FileTooLong named) name entries = Refuses name (FileTooLong named)
-  Pipes (Refused named line reason) name entries = Refuses name (Refused named line reason)
-  Pipes (Served how) name entries = ServesProject name entries how
-  Pipes (Reported report) name entries = ⊥
-  Pipes (Cut report) name entries = ⊥
-  Pipes WriteFailed name entries = ⊥
+  -- What `pipe` with this project file and so many entries comes to, by its ending: the link was served to an end; or
+  -- the project file isn't taken, and the link is as it was; or memory was wanted, and all is as it was.
+  pub data Pipes (name : List ℕ) (entries : ℕ) (ended : Ended) : Type 0 where
+    served : (how : ConnEnd) → ServesProject name entries how → ended ≡ Served how → Pipes name entries ended
+    refused : IsOfFile ended → ReadsProject name (Err ended) → outside.link_now ≡ outside.link_before → Pipes name entries ended
+    no_memory : StaysAside → ended ≡ OutOfMemory → Pipes name entries ended
 
   -- what a report over these two files comes to, by its ending; the link is as it was
-  pub record ReportsAside (reports : ProjectView → Trace → Report) (ended : Ended) (project_name trace_name : List ℕ) : Type 0 where
-    pub reports_so : ReportsSo (Rose outside.file_reads_before outside.file_reads_now) outside.files_before outside.files_now reports ended project_name trace_name
+  pub record ReportsAside (reports : ProjectView → Trace → Report) (project_name trace_name : List ℕ) (ended : Ended) : Type 0 where
+    pub reports_so : ReportsSo (Rose outside.file_reads_before outside.file_reads_now) outside.files_before outside.files_now reports project_name trace_name ended
     pub link : outside.link_now ≡ outside.link_before
 
   -- what a report on the units of this project file comes to, by its ending; the link is as it was
-  pub record ListsAside (ended : Ended) (name : List ℕ) : Type 0 where
+  pub record ListsAside (name : List ℕ) (ended : Ended) : Type 0 where
     pub lists_so : ListsSo (Rose outside.file_reads_before outside.file_reads_now) outside.files_before outside.files_now name ended
     pub link : outside.link_now ≡ outside.link_before
 
   -- what generating a project in this folder comes to, by its ending; the link is as it was
-  pub record GeneratesAside (ended : Ended) (folder : List ℕ) (units seed : ℕ) : Type 0 where
+  pub record GeneratesAside (folder : List ℕ) (units seed : ℕ) (ended : Ended) : Type 0 where
     pub generates_so : GeneratesSo (Rose outside.file_writes_before outside.file_writes_now) outside.files_before outside.files_now folder units seed ended
     pub link : outside.link_now ≡ outside.link_before
 
   -- a task was done to this ending
   abbrev pub DoesTask : Task → Ended → Type 0
-  DoesTask (Pipe project entries) ended = Pipes ended project entries
-  DoesTask (Check project trace) ended = ReportsAside check_report ended project trace
-  DoesTask (Replay project trace) ended = ReportsAside replay_report ended project trace
-  DoesTask (ListUnits project) ended = ListsAside ended project
-  DoesTask (Generate folder units seed) ended = GeneratesAside ended folder units seed
+  DoesTask (Pipe project entries) ended = Pipes project entries ended
+  DoesTask (Check project trace) ended = ReportsAside check_report project trace ended
+  DoesTask (Replay project trace) ended = ReportsAside replay_report project trace ended
+  DoesTask (ListUnits project) ended = ListsAside project ended
+  DoesTask (Generate folder units seed) ended = GeneratesAside folder units seed ended
 
   -- what the words ask for, done to this ending
   pub data Does (words : List (String Global)) (ended : Ended) : Type 0 where
     nothing : AsksNothing words → ended ≡ BadWords → StaysAside → Does words ended
     asked : (task : Task) → AsksFor (map string_bytes words) task → DoesTask task ended → Does words ended
 
-  -- A run ended with this status: what the words ask for was done to an ending, and what belongs to it was printed.
-  pub record Runs (words : List (String Global)) (faults_before faults_now : ℕ) (out_before out_now : Option (List ℕ)) (status : ℕ) : Type 0 where
-    pub ending : Ended
-    pub status_is : status ≡ status_of ending
-    pub spoken : Told (Speaks ending faults_before faults_now) out_before out_now
-    pub cause : HasSinkCause ending faults_before faults_now
-    pub does : Does words ending
-
-  -- A task ended with this status: it was done to an ending, and what belongs to it was printed.
-  pub record RunsTask (task : Task) (faults_before faults_now : ℕ) (out_before out_now : Option (List ℕ)) (status : ℕ) : Type 0 where
-    pub ending : Ended
-    pub status_is : status ≡ status_of ending
-    pub spoken : Told (Speaks ending faults_before faults_now) out_before out_now
-    pub cause : HasSinkCause ending faults_before faults_now
-    pub does : DoesTask task ending
-
-  -- `pipe` ended with this status: so its project and its link were served, and the message of its ending was printed
-  pub record RunsPipe (name : List ℕ) (entries : ℕ) (faults_before faults_now : ℕ) (out_before out_now : Option (List ℕ)) (status : ℕ) : Type 0 where
-    pub ending : Ended
-    pub status_is : status ≡ status_of ending
-    pub message : Told (Prints (message_of ending) faults_before faults_now) out_before out_now
-    pub pipes : Pipes ending name entries
-
--- The input that is still to come passes no limit and ends behind a whole block, and a history of so many entries has room
--- for all that it enters, beside the three entries that any connection alone has.
+-- The input that is still to come passes no limit and ends behind a whole block, and a history of so many entries has
+-- room for all that it enters, beside the three entries that any connection alone has.
 pub record IsWhole (project : ProjectView) (entries : ℕ) (octets : Octets) : Type 0 where
   pub within : PassesLimits octets.to_come → ⊥
   pub none_held : held octets.to_come ≡ 0
@@ -183,6 +174,32 @@ pub record AsksToWrite (words : List (String Global)) : Type 0 where
   pub units : ℕ
   pub seed : ℕ
   pub asks : AsksFor (map string_bytes words) (Generate folder units seed)
+
+-- a count of faults hasn't risen
+abbrev pub HasStood : ℕ → ℕ → Type 0
+HasStood before now = Rose before now → ⊥
+
+module _ {L : Type 0} (outside : Outside L) (output : Output) (words : List (String Global)) where
+  -- Nothing hinders what the words ask for: all that it takes is there, and no read and no write that it takes failed.
+  pub data NothingHinders : Type 0 where
+    to_serve : IsAllThere words outside.files_before (outside.octets outside.link_before) → HasStood outside.file_reads_before outside.file_reads_now → HasStood outside.link_reads_before outside.link_reads_now → HasStood outside.link_writes_before outside.link_writes_now → NothingHinders
+    to_report : AreBothThere words outside.files_before → HasStood outside.file_reads_before outside.file_reads_now → HasStood output.faults_before output.faults_now → NothingHinders
+    to_list : AreUnitsThere words outside.files_before → HasStood outside.file_reads_before outside.file_reads_now → HasStood output.faults_before output.faults_now → NothingHinders
+    to_write : AsksToWrite words → HasStood outside.file_writes_before outside.file_writes_now → HasStood output.faults_before output.faults_now → NothingHinders
+
+-- a task is a report, whose status tells whether all is well
+abbrev pub IsReport : Task → Type 0
+IsReport (Pipe project entries) = ⊥
+IsReport (Check project trace) = Unit {0}
+IsReport (Replay project trace) = Unit {0}
+IsReport (ListUnits project) = Unit {0}
+IsReport (Generate folder units seed) = ⊥
+
+-- the words ask for a report
+pub record AsksToReport (words : List (String Global)) : Type 0 where
+  pub task : Task
+  pub asks : AsksFor (map string_bytes words) task
+  pub is_report : IsReport task
 
 -- a task isn't to write the file of this name
 abbrev pub IsSparedBy : Task → List ℕ → Type 0

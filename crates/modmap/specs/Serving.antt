@@ -12,8 +12,8 @@ pub record Moves (read written : List ℕ) (before now : Octets) : Type 0 where
   pub to_come_was : before.to_come ≡ read ++ now.to_come
   pub written_are : now.written ≡ before.written ++ written
 
--- A link was served to this end as the only connection of its history, which has at most so many entries: the octets, the
--- output and the status determine that history, and the connection stands in it so.
+-- A link was served to this end as the only connection of its history, which has at most so many entries: the octets,
+-- the output and the status determine that history, and the connection stands in it so.
 pub record ServesAlone (project : ProjectView) (entries : ℕ) (how : ConnEnd) (before now : Octets) : Type 0 where
   pub read : List ℕ
   pub written : List ℕ

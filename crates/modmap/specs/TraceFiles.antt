@@ -35,8 +35,8 @@ pub record IsNoTrace (name : List ℕ) (held : Option (List ℕ)) (named : List 
   pub fault : IsFault text line cause
   pub reason_is : reason ≡ reason_text cause
 
--- What the trace's file of this name is read as, by what it holds: its trace, or why there is none. `failed` says that a
--- read failed.
+-- What the trace's file of this name is read as, by what it holds: its trace, or why there is none. `failed` says
+-- that a read failed.
 abbrev pub IsTraceReadAs : Type 0 → List ℕ → Result Trace Ended → Option (List ℕ) → Type 0
 IsTraceReadAs failed name (Ok trace) held = HoldsTrace held trace
 IsTraceReadAs failed name (Err BadWords) held = ⊥

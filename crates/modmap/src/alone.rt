@@ -1,12 +1,12 @@
 //! The call behind the program: words in, a status out.
 
-ghost use Rattle.std.specs.Prelude.{◌≡◌, ◌≢◌, ◌↔◌, ◌⊎◌, ◌≤◌, ◌+◌, ◌*◌, ◌++◌, [], ℕ, List, length, map, string_bytes, IfOk, IfSome, Some, None};
+ghost use Rattle.std.specs.Prelude.{◌≡◌, ◌↔◌, ◌⊎◌, ◌≤◌, ◌+◌, ℕ, List};
 ghost use Rattle.mm_outside.specs.Causes.{Rose};
 ghost use Rattle.mm_outside.specs.Told.{Told};
 ghost use Rattle.cody_words.specs.Canonical.{word_room};
-ghost use Rattle.modmap.specs.Endings.{BadWords, OutOfMemory, message_of, message_room, status_of, told_by, Prints};
+ghost use Rattle.modmap.specs.Endings.{Ends, frame_room, message_room, output_of, reason_room, told_by};
 ghost use Rattle.modmap.specs.Commands.{Generate, task_of, AsksFor};
-ghost use Rattle.modmap.specs.Running.{AreBothThere, AreUnitsThere, AsksNothing, AsksToWrite, IsAllThere, KeepsOthers, LacksFile, Pipes, Runs, RunsPipe, RunsTask};
+ghost use Rattle.modmap.specs.Running.{AsksNothing, AsksToReport, AsksToWrite, Does, DoesTask, HasNoFault, KeepsOthers, LacksFile, NothingHinders, Pipes, outside_of};
 
 use crate::check::run_check;
 use crate::command::Command;
@@ -16,7 +16,7 @@ use crate::list::run_list;
 use crate::pipe::pipe;
 use crate::project_file::read_project;
 use crate::replay::run_replay;
-use crate::telling::{message_buffer, print_text};
+use crate::telling::{message_buffer, print_text, tell_memory};
 use mm_outside::{Files, Link, Memory, Sink};
 use std::alloc::Global;
 
@@ -30,23 +30,9 @@ fn serve_project<'a, F: Files, L: Link>(
 ) -> Ending<'a>
     requires fewest { 3 ≤ entries }
     requires most { entries ≤ 1048576 }
-    ensures pipes { Pipes (record {
-      octets = L.octets;
-      link_before = link.old;
-      link_now = link.new;
-      files_before = F.content files.old;
-      files_now = F.content files.new;
-      file_reads_before = F.read_faults files.old;
-      file_reads_now = F.read_faults files.new;
-      file_writes_before = F.write_faults files.old;
-      file_writes_now = F.write_faults files.new;
-      link_reads_before = L.read_faults link.old;
-      link_reads_now = L.read_faults link.new;
-      link_writes_before = L.write_faults link.old;
-      link_writes_now = L.write_faults link.new;
-    })
-        (told_by result) name.now entries }
-    ensures room { message_room (told_by result) ≤ word_room name.now + 80 }
+    ensures pipes { Pipes (outside_of F.content F.read_faults F.write_faults L.octets L.read_faults L.write_faults files.old files.new link.old link.new)
+        name.now entries (told_by result) }
+    ensures room { message_room (told_by result) ≤ word_room name.now + reason_room + frame_room }
     ensures files { F.write_faults files.new ≡ F.write_faults files.old }
 {
     match read_project(alloc, files, name) {
@@ -69,27 +55,12 @@ fn run_pipe<F: Files, L: Link, K: Sink>(
 ) -> u8
     requires fewest { 3 ≤ entries }
     requires most { entries ≤ 1048576 }
-    ensures run { RunsPipe (record {
-      octets = L.octets;
-      link_before = link.old;
-      link_now = link.new;
-      files_before = F.content files.old;
-      files_now = F.content files.new;
-      file_reads_before = F.read_faults files.old;
-      file_reads_now = F.read_faults files.new;
-      file_writes_before = F.write_faults files.old;
-      file_writes_now = F.write_faults files.new;
-      link_reads_before = L.read_faults link.old;
-      link_reads_now = L.read_faults link.new;
-      link_writes_before = L.write_faults link.old;
-      link_writes_now = L.write_faults link.new;
-    })
-        name.now entries (K.faults out.old) (K.faults out.new) (K.written out.old) (K.written out.new) result }
+    ensures run { Ends (Pipes (outside_of F.content F.read_faults F.write_faults L.octets L.read_faults L.write_faults files.old files.new link.old link.new) name.now entries)
+        (output_of K.written K.faults out.old out.new) result }
     ensures files { F.write_faults files.new ≡ F.write_faults files.old }
 {
     let Ok(mut message) = message_buffer(alloc, name) else {
-        print_text(b"modmap: out of memory\n", out);
-        return 3;
+        return tell_memory(out);
     };
     let ending = serve_project(alloc, name, entries, files, link);
     ending.write_message(&mut message);
@@ -106,22 +77,9 @@ fn run_command<F: Files, L: Link, K: Sink>(
     out: &mut K,
 ) -> u8
     requires { (words : List (List ℕ)) × AsksFor words (task_of command) }
-    ensures run { RunsTask (record {
-      octets = L.octets;
-      link_before = link.old;
-      link_now = link.new;
-      files_before = F.content files.old;
-      files_now = F.content files.new;
-      file_reads_before = F.read_faults files.old;
-      file_reads_now = F.read_faults files.new;
-      file_writes_before = F.write_faults files.old;
-      file_writes_now = F.write_faults files.new;
-      link_reads_before = L.read_faults link.old;
-      link_reads_now = L.read_faults link.new;
-      link_writes_before = L.write_faults link.old;
-      link_writes_now = L.write_faults link.new;
-    })
-        (task_of command.entry) (K.faults out.old) (K.faults out.new) (K.written out.old) (K.written out.new) result }
+    ensures run { Ends (DoesTask (outside_of F.content F.read_faults F.write_faults L.octets L.read_faults L.write_faults files.old files.new link.old link.new) (task_of command.entry))
+        (output_of K.written K.faults out.old out.new) result }
+    ensures unfailing { (result ≡ 0) ⊎ (result ≡ 1) → HasNoFault (outside_of F.content F.read_faults F.write_faults L.octets L.read_faults L.write_faults files.old files.new link.old link.new) }
     ensures files { ((folder : List ℕ) (units seed : ℕ) → task_of command.entry ≡ Generate folder units seed → ⊥) → F.write_faults files.new ≡ F.write_faults files.old }
 {
     match command {
@@ -138,10 +96,11 @@ fn run_command<F: Files, L: Link, K: Sink>(
 }
 
 /// Runs the program over one link: `words` are the command line without the program's name, `files` hold the files
-/// that it names, `link` is what the command `pipe` serves, and `out` takes reports and messages. It answers the exit status: 0 all done,
-/// 1 a trace isn't legal or a unit failed, 2 bad words, 3 want of memory before the link was touched, 4 a file is absent or
-/// a read of it or of the link failed, 5 a write of the link, of a file or of a report failed, 6 a file is refused or too long, 7 the input ended
-/// inside a block, 8 the input or a block was too long, 9 the history is full. The statuses are this project's own.
+/// that it names, `link` is what the command `pipe` serves, and `out` takes reports and messages. It answers the exit
+/// status: 0 all done, 1 a trace isn't legal or a unit failed, 2 bad words, 3 want of memory before the link was
+/// touched, 4 a file is absent or a read of it or of the link failed, 5 a write of the link, of a file or of a report
+/// failed, 6 a file is refused or too long, 7 the input ended inside a block, 8 the input or a block was too long, 9
+/// the history is full. The statuses are this project's own.
 pub fn run_alone<R, F: Files, L: Link, K: Sink>(
     _rt: &R,
     alloc: Global,
@@ -150,47 +109,25 @@ pub fn run_alone<R, F: Files, L: Link, K: Sink>(
     link: &mut L,
     out: &mut K,
 ) -> u8
-    ensures run { Runs (record {
-      octets = L.octets;
-      link_before = link.old;
-      link_now = link.new;
-      files_before = F.content files.old;
-      files_now = F.content files.new;
-      file_reads_before = F.read_faults files.old;
-      file_reads_now = F.read_faults files.new;
-      file_writes_before = F.write_faults files.old;
-      file_writes_now = F.write_faults files.new;
-      link_reads_before = L.read_faults link.old;
-      link_reads_now = L.read_faults link.new;
-      link_writes_before = L.write_faults link.old;
-      link_writes_now = L.write_faults link.new;
-    })
-        words.now (K.faults out.old) (K.faults out.new) (K.written out.old) (K.written out.new) result }
+    ensures run { Ends (Does (outside_of F.content F.read_faults F.write_faults L.octets L.read_faults L.write_faults files.old files.new link.old link.new) words.now)
+        (output_of K.written K.faults out.old out.new) result }
     ensures words { (result ≡ 2) ↔ AsksNothing words.now }
     ensures untouched { (result ≡ 2) ⊎ ((result ≡ 3) ⊎ (result ≡ 6)) → link.new ≡ link.old }
     ensures read_fault { result ≡ 4 → LacksFile words.now (F.content files.old) ⊎ Rose (F.read_faults files.old) (F.read_faults files.new) ⊎ Rose (L.read_faults link.old) (L.read_faults link.new) }
     ensures write_fault { result ≡ 5 → Rose (L.write_faults link.old) (L.write_faults link.new) ⊎ Rose (F.write_faults files.old) (F.write_faults files.new) ⊎ Rose (K.faults out.old) (K.faults out.new) }
 
+    // What is done has no fault behind it.
+    ensures unfailing { (result ≡ 0) ⊎ (result ≡ 1) → HasNoFault (outside_of F.content F.read_faults F.write_faults L.octets L.read_faults L.write_faults files.old files.new link.old link.new) }
+
     // Only `gen` writes files, and no others than those of its project.
     ensures others { Told (KeepsOthers words.now) (F.content files.old) (F.content files.new) }
     ensures files { ¬ (AsksToWrite words.now) → F.write_faults files.new ≡ F.write_faults files.old }
 
-    // Where all is there and nothing fails, all is served, unless memory runs out before.
-    ensures complete { IsAllThere words.now (F.content files.old) (L.octets link.old) → ¬ (Rose (F.read_faults files.old) (F.read_faults files.new)) → ¬ (Rose (L.read_faults link.old) (L.read_faults link.new))
-        → ¬ (Rose (L.write_faults link.old) (L.write_faults link.new)) → (result ≡ 0) ⊎ (result ≡ 3) }
-
-    // Where both files of a report are there and nothing fails, it is printed whole, unless memory runs out before.
-    ensures reports { AreBothThere words.now (F.content files.old) → ¬ (Rose (F.read_faults files.old) (F.read_faults files.new)) → ¬ (Rose (K.faults out.old) (K.faults out.new))
-        → (result ≡ 0) ⊎ ((result ≡ 1) ⊎ (result ≡ 3)) }
-
-    // Where all files of a project are there and are taken, and nothing fails, the report on its units is printed whole,
-    // unless memory runs out before.
-    ensures lists { AreUnitsThere words.now (F.content files.old) → ¬ (Rose (F.read_faults files.old) (F.read_faults files.new)) → ¬ (Rose (K.faults out.old) (K.faults out.new))
-        → (result ≡ 0) ⊎ ((result ≡ 1) ⊎ (result ≡ 3)) }
-
-    // Where no write fails, a project is generated whole, unless memory runs out before.
-    ensures generates { AsksToWrite words.now → ¬ (Rose (F.write_faults files.old) (F.write_faults files.new)) → ¬ (Rose (K.faults out.old) (K.faults out.new))
-        → (result ≡ 0) ⊎ (result ≡ 3) }
+    // Where nothing hinders what the words ask for, it is done whole, unless memory runs out before. Only a report ends
+    // with 1.
+    ensures whole { NothingHinders (outside_of F.content F.read_faults F.write_faults L.octets L.read_faults L.write_faults files.old files.new link.old link.new)
+        (output_of K.written K.faults out.old out.new) words.now → (result ≡ 0) ⊎ ((result ≡ 1) ⊎ (result ≡ 3)) }
+    ensures ill { result ≡ 1 → AsksToReport words.now }
 {
     match Command::read(words) {
         Some(command) => run_command(alloc, command, files, link, out),

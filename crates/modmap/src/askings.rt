@@ -1,10 +1,12 @@
-//! The words behind `gen` and behind `list`.
+//! The words behind `gen` and behind `list`, and numbers among words.
 
-ghost use Rattle.std.specs.Prelude.{◌≡◌, ◌<◌, ◌≤◌, ◌^◌, ◌∷◌, [], ℕ, List, None, decimal, map, string_bytes, IfSome};
+ghost use Rattle.std.specs.Prelude.{◌≡◌, ◌∷◌, [], ℕ, map, string_bytes, IfNone, IfSome};
 ghost use Rattle.std.specs.List.{list_all};
 ghost use Rattle.header_units.specs.Octets.{is_path_octet};
-ghost use Rattle.modmap.specs.Askings.{AsksGen, AsksList, IsNumberWithin, is_folder};
+ghost use Rattle.modmap.specs.Askings.{IsNumberWithin, is_folder};
+ghost use Rattle.modmap.specs.Commands.{Task, task_of, AsksToGenerate, AsksToList};
 
+use crate::command::Command;
 use mapper_requests::read_decimal;
 
 /// The most octets of a folder.
@@ -15,17 +17,6 @@ const MOST_UNITS: u32 = 2_000;
 
 /// The greatest seed.
 const GREATEST_SEED: u32 = 2_147_483_647;
-
-/// What `gen` is asked for.
-#[derive(Clone, Copy, Debug, PartialEq, Eq)]
-pub struct Asking<'a> {
-    /// The folder of the project.
-    pub folder: &'a [u8],
-    /// How many units it is to have.
-    pub units: u32,
-    /// The number that its draws begin with.
-    pub seed: u32,
-}
 
 /// Whether no octet is below 0x20 or 0x7f.
 fn has_no_control(word: &[u8]) -> bool
@@ -42,9 +33,9 @@ fn is_folder(word: &[u8]) -> bool
 }
 
 /// The number that the word spells, where it lies between the two or is one of them.
-fn read_within(low: u32, high: u32, word: &[u8]) -> Option<u32>
+pub fn read_within(low: u32, high: u32, word: &[u8]) -> Option<u32>
     ensures number { IfSome result (λ number. IsNumberWithin low high word.now number) }
-    ensures none { result ≡ None → (number : ℕ) → IsNumberWithin low high word.now number → ⊥ }
+    ensures none { IfNone result ((number : ℕ) → IsNumberWithin low high word.now number → ⊥) }
 {
     let Some(number) = read_decimal(word) else {
         return None;
@@ -56,10 +47,10 @@ fn read_within(low: u32, high: u32, word: &[u8]) -> Option<u32>
     }
 }
 
-/// What `gen` is asked for by these three words.
-fn read_counts<'a>(folder: &'a [u8], units: &[u8], seed: &[u8]) -> Option<Asking<'a>>
-    ensures asked { IfSome result (λ asked. AsksGen (folder.now ∷ units.now ∷ seed.now ∷ []) asked.folder.now asked.units asked.seed) }
-    ensures none { result ≡ None → (place : List ℕ) (count first : ℕ) → AsksGen (folder.now ∷ units.now ∷ seed.now ∷ []) place count first → ⊥ }
+/// The command `gen` with these three words behind it.
+fn read_counts<'a>(folder: &'a [u8], units: &[u8], seed: &[u8]) -> Option<Command<'a>>
+    ensures asked { IfSome result (λ command. AsksToGenerate (folder.now ∷ units.now ∷ seed.now ∷ []) (task_of command)) }
+    ensures none { IfNone result ((task : Task) → AsksToGenerate (folder.now ∷ units.now ∷ seed.now ∷ []) task → ⊥) }
 {
     if !is_folder(folder) {
         return None;
@@ -70,19 +61,19 @@ fn read_counts<'a>(folder: &'a [u8], units: &[u8], seed: &[u8]) -> Option<Asking
     let Some(seed) = read_within(0, GREATEST_SEED, seed) else {
         return None;
     };
-    Some(Asking {
+    Some(Command::Gen {
         folder,
         units,
         seed,
     })
 }
 
-/// What `gen` is asked for by the words behind it; `None` where they aren't `FOLDER UNITS SEED` with a FOLDER of 1 to 400
+/// The command `gen` with these words behind it; `None` where they aren't `FOLDER UNITS SEED` with a FOLDER of 1 to 400
 /// octets, none below 0x20 and none 0x7f, UNITS from 1 to 2,000 and SEED from 0 to 2,147,483,647, decimal without leading
 /// zeros. The form is this project's own.
-pub fn read_gen(words: &[String]) -> Option<Asking<'_>>
-    ensures asked { IfSome result (λ asked. AsksGen (map string_bytes words.now) asked.folder.now asked.units asked.seed) }
-    ensures none { result ≡ None → (folder : List ℕ) (units seed : ℕ) → AsksGen (map string_bytes words.now) folder units seed → ⊥ }
+pub fn read_gen(words: &[String]) -> Option<Command<'_>>
+    ensures asked { IfSome result (λ command. AsksToGenerate (map string_bytes words.now) (task_of command)) }
+    ensures none { IfNone result ((task : Task) → AsksToGenerate (map string_bytes words.now) task → ⊥) }
 {
     match words {
         [folder, units, seed] => read_counts(folder.as_bytes(), units.as_bytes(), seed.as_bytes()),
@@ -90,14 +81,15 @@ pub fn read_gen(words: &[String]) -> Option<Asking<'_>>
     }
 }
 
-/// The project file that `list` is asked for by the words behind it; `None` where they aren't one word. The form is this
-/// project's own.
-pub fn read_list(words: &[String]) -> Option<&[u8]>
-    ensures asked { IfSome result (λ project. AsksList (map string_bytes words.now) project.now) }
-    ensures none { result ≡ None → (project : List ℕ) → AsksList (map string_bytes words.now) project → ⊥ }
+/// The command `list` with these words behind it; `None` where they aren't one word. The form is this project's own.
+pub fn read_list(words: &[String]) -> Option<Command<'_>>
+    ensures asked { IfSome result (λ command. AsksToList (map string_bytes words.now) (task_of command)) }
+    ensures none { IfNone result ((task : Task) → AsksToList (map string_bytes words.now) task → ⊥) }
 {
     match words {
-        [project] => Some(project.as_bytes()),
+        [project] => Some(Command::List {
+            project: project.as_bytes(),
+        }),
         _ => None,
     }
 }

@@ -1,13 +1,12 @@
 //! Saying whether a trace is legal.
 
-ghost use Rattle.std.specs.Prelude.{◌≡◌, ◌≤◌, [], length, IfOk, OnErr};
+ghost use Rattle.std.specs.Prelude.{◌≡◌, ◌⊎◌, ◌≤◌, [], IfOk, OnErr};
 ghost use Rattle.mm_outside.specs.Causes.{Rose};
-ghost use Rattle.modmap.specs.Endings.{Issues};
-ghost use Rattle.modmap.specs.Reports.{RunsReport, check_report, illegal_report, legal_report};
+ghost use Rattle.modmap.specs.Endings.{Ends, Issues, output_of};
+ghost use Rattle.modmap.specs.Reports.{ReportsSo, check_report, illegal_report, legal_report};
 
-use crate::ending::Ending;
 use crate::sources::read_sources;
-use crate::telling::{issue, tell};
+use crate::telling::{issue, tell, tell_memory};
 use cody_words::{LineBuf, write_number};
 use mm_outside::{Files, Memory, Sink};
 use std::alloc::Global;
@@ -45,7 +44,7 @@ fn write_illegal(place: u32, reason: IllegalReason, line: &mut LineBuf)
 fn issue_legal<K: Sink>(count: u32, line: &mut LineBuf, out: &mut K) -> u8
     requires room { 64 ≤ line.old.spare }
     requires empty { line.old.octets ≡ [] }
-    ensures { Issues (legal_report count) (K.faults out.old) (K.faults out.new) (K.written out.old) (K.written out.new) result }
+    ensures { Issues (legal_report count) (output_of K.written K.faults out.old out.new) result }
 {
     write_legal(count, line);
     issue(line.octets(), true, out)
@@ -60,7 +59,7 @@ pub fn issue_illegal<K: Sink>(
 ) -> u8
     requires room { 64 ≤ line.old.spare }
     requires empty { line.old.octets ≡ [] }
-    ensures { Issues (illegal_report place reason) (K.faults out.old) (K.faults out.new) (K.written out.old) (K.written out.new) result }
+    ensures { Issues (illegal_report place reason) (output_of K.written K.faults out.old out.new) result }
 {
     write_illegal(place, reason, line);
     issue(line.octets(), false, out)
@@ -73,7 +72,7 @@ fn check_trace<K: Sink>(
     trace: &Trace,
     out: &mut K,
 ) -> Result<u8, Memory>
-    ensures issued { IfOk result (λ status. Issues (check_report project.now trace.now) (K.faults out.old) (K.faults out.new) (K.written out.old) (K.written out.new) status) }
+    ensures issued { IfOk result (λ status. Issues (check_report project.now trace.now) (output_of K.written K.faults out.old out.new) status) }
     ensures memory { OnErr result (out.new ≡ out.old) }
 {
     let mut line = LineBuf::new(alloc, REPORT_ROOM)?;
@@ -96,14 +95,15 @@ pub fn run_check<F: Files, K: Sink>(
     files: &mut F,
     out: &mut K,
 ) -> u8
-    ensures run { RunsReport (Rose (F.read_faults files.old) (F.read_faults files.new)) (F.content files.old) (F.content files.new)
-        check_report project.now trace.now (K.faults out.old) (K.faults out.new) (K.written out.old) (K.written out.new) result }
+    ensures run { Ends (ReportsSo (Rose (F.read_faults files.old) (F.read_faults files.new)) (F.content files.old) (F.content files.new) check_report project.now trace.now)
+        (output_of K.written K.faults out.old out.new) result }
+    ensures unfailing { (result ≡ 0) ⊎ (result ≡ 1) → F.read_faults files.new ≡ F.read_faults files.old }
     ensures files { F.write_faults files.new ≡ F.write_faults files.old }
 {
     match read_sources(alloc, project, trace, files) {
         Ok(sources) => match check_trace(alloc, &sources.project, &sources.trace, out) {
             Ok(status) => status,
-            Err(Memory) => tell(alloc, Ending::OutOfMemory, out),
+            Err(Memory) => tell_memory(out),
         },
         Err(ending) => tell(alloc, ending, out),
     }

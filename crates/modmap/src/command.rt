@@ -1,11 +1,11 @@
 //! The commands, as words of the command line.
 
-ghost use Rattle.std.specs.Prelude.{◌≡◌, ◌≢◌, ◌<◌, ◌^◌, ◌∷◌, [], ℕ, List, None, decimal, map, string_bytes, IfSome};
-ghost use Rattle.modmap.specs.Commands.{Check, Replay, task_of, AsksAs, AsksFor, AsksOfTrace, AsksPipe, AsksToGenerate, AsksToList, IsEntries};
+ghost use Rattle.std.specs.Prelude.{◌≡◌, ◌∷◌, [], ℕ, map, string_bytes, IfNone, IfSome};
+ghost use Rattle.modmap.specs.Askings.{IsNumberWithin};
+ghost use Rattle.modmap.specs.Commands.{Task, Check, Replay, task_of, AsksAs, AsksFor, AsksNothing, AsksOfTrace, AsksPipe};
 
-use crate::askings::{read_gen, read_list};
+use crate::askings::{read_gen, read_list, read_within};
 use crate::verb::Verb;
-use mapper_requests::read_decimal;
 
 /// The entries of a history that `pipe` keeps where its words don't say.
 const USUAL_ENTRIES: u32 = 65_536;
@@ -63,7 +63,8 @@ impl<'a> Command<'a> {
     /// and none 0x7f, UNITS from 1 to 2,000 and SEED from 0 to 2,147,483,647. The forms are this project's own.
     pub fn read(words: &'a [String]) -> Option<Command<'a>>
         ensures asked { IfSome result (λ command. AsksFor (map string_bytes words.now) (task_of command)) }
-        ensures none { result ≡ None → (task : _) → AsksFor (map string_bytes words.now) task → ⊥ }
+        ensures only { IfSome result (λ command. (task : Task) → AsksFor (map string_bytes words.now) task → task ≡ task_of command) }
+        ensures none { IfNone result (AsksNothing words.now) }
     {
         let Some((first, rest)) = words.split_first() else {
             return None;
@@ -78,21 +79,21 @@ impl<'a> Command<'a> {
 /// The command of this verb with these words behind it.
 fn read_behind(verb: Verb, words: &[String]) -> Option<Command<'_>>
     ensures asked { IfSome result (λ command. AsksAs verb (map string_bytes words.now) (task_of command)) }
-    ensures none { result ≡ None → (task : _) → AsksAs verb (map string_bytes words.now) task → ⊥ }
+    ensures none { IfNone result ((task : Task) → AsksAs verb (map string_bytes words.now) task → ⊥) }
 {
     match verb {
         Verb::Pipe => read_pipe(words),
         Verb::Check => read_check(words),
         Verb::Replay => read_replay(words),
-        Verb::List => list_command(words),
-        Verb::Gen => gen_command(words),
+        Verb::List => read_list(words),
+        Verb::Gen => read_gen(words),
     }
 }
 
 /// The command `check` with these words behind it.
 fn read_check(words: &[String]) -> Option<Command<'_>>
     ensures asked { IfSome result (λ command. AsksOfTrace Check (map string_bytes words.now) (task_of command)) }
-    ensures none { result ≡ None → (task : _) → AsksOfTrace Check (map string_bytes words.now) task → ⊥ }
+    ensures none { IfNone result ((task : Task) → AsksOfTrace Check (map string_bytes words.now) task → ⊥) }
 {
     match words {
         [project, trace] => Some(Command::Check {
@@ -106,7 +107,7 @@ fn read_check(words: &[String]) -> Option<Command<'_>>
 /// The command `replay` with these words behind it.
 fn read_replay(words: &[String]) -> Option<Command<'_>>
     ensures asked { IfSome result (λ command. AsksOfTrace Replay (map string_bytes words.now) (task_of command)) }
-    ensures none { result ≡ None → (task : _) → AsksOfTrace Replay (map string_bytes words.now) task → ⊥ }
+    ensures none { IfNone result ((task : Task) → AsksOfTrace Replay (map string_bytes words.now) task → ⊥) }
 {
     match words {
         [project, trace] => Some(Command::Replay {
@@ -117,36 +118,10 @@ fn read_replay(words: &[String]) -> Option<Command<'_>>
     }
 }
 
-/// The command `list` with these words behind it.
-fn list_command(words: &[String]) -> Option<Command<'_>>
-    ensures asked { IfSome result (λ command. AsksToList (map string_bytes words.now) (task_of command)) }
-    ensures none { result ≡ None → (task : _) → AsksToList (map string_bytes words.now) task → ⊥ }
-{
-    match read_list(words) {
-        Some(project) => Some(Command::List { project }),
-        None => None,
-    }
-}
-
-/// The command `gen` with these words behind it.
-fn gen_command(words: &[String]) -> Option<Command<'_>>
-    ensures asked { IfSome result (λ command. AsksToGenerate (map string_bytes words.now) (task_of command)) }
-    ensures none { result ≡ None → (task : _) → AsksToGenerate (map string_bytes words.now) task → ⊥ }
-{
-    match read_gen(words) {
-        Some(asked) => Some(Command::Gen {
-            folder: asked.folder,
-            units: asked.units,
-            seed: asked.seed,
-        }),
-        None => None,
-    }
-}
-
 /// The command `pipe` with these words behind it.
 fn read_pipe(words: &[String]) -> Option<Command<'_>>
     ensures asked { IfSome result (λ command. AsksPipe (map string_bytes words.now) (task_of command)) }
-    ensures none { result ≡ None → (task : _) → AsksPipe (map string_bytes words.now) task → ⊥ }
+    ensures none { IfNone result ((task : Task) → AsksPipe (map string_bytes words.now) task → ⊥) }
 {
     match words {
         [project] => Some(Command::Pipe {
@@ -161,25 +136,10 @@ fn read_pipe(words: &[String]) -> Option<Command<'_>>
 /// The command `pipe` with this project file and this word for the entries.
 fn read_counted<'a>(project: &'a [u8], word: &[u8]) -> Option<Command<'a>>
     ensures asked { IfSome result (λ command. AsksPipe (project.now ∷ word.now ∷ []) (task_of command)) }
-    ensures none { result ≡ None → (entries : ℕ) → IsEntries word.now entries → ⊥ }
+    ensures none { IfNone result ((entries : ℕ) → IsNumberWithin 3 1048576 word.now entries → ⊥) }
 {
-    match read_entries(word) {
+    match read_within(FEWEST_ENTRIES, MOST_ENTRIES, word) {
         Some(entries) => Some(Command::Pipe { project, entries }),
         None => None,
-    }
-}
-
-/// The number of entries that the word spells, where it is one that `pipe` can be asked for.
-fn read_entries(word: &[u8]) -> Option<u32>
-    ensures number { IfSome result (λ entries. IsEntries word.now entries) }
-    ensures none { result ≡ None → (entries : ℕ) → IsEntries word.now entries → ⊥ }
-{
-    let Some(entries) = read_decimal(word) else {
-        return None;
-    };
-    if FEWEST_ENTRIES <= entries && entries <= MOST_ENTRIES {
-        Some(entries)
-    } else {
-        None
     }
 }

@@ -1,16 +1,16 @@
 //! The command `gen`: writing a generated project.
 
-ghost use Rattle.std.specs.Prelude.{◌≡◌, ◌≤◌, ◌+◌, ◌⊎◌, length};
+ghost use Rattle.std.specs.Prelude.{◌≡◌, ◌≤◌, ◌+◌, length};
 ghost use Rattle.mm_outside.specs.Causes.{HasCause, Rose};
 ghost use Rattle.mm_outside.specs.Files.{Stores};
 ghost use Rattle.mm_outside.specs.Told.{Told};
-ghost use Rattle.modmap.specs.Endings.{IsCut};
-ghost use Rattle.modmap.specs.Generating.{RunsGen, WritesAll, capacity_of, files_of, project_name, source_files, source_name, wrote_text};
+ghost use Rattle.modmap.specs.Endings.{Ends, output_of};
+ghost use Rattle.modmap.specs.Generating.{GeneratesSo, WritesAll, capacity_of, files_of, project_name, source_files, source_name, wrote_text};
 
-use crate::telling::print_text;
+use crate::telling::{issue, print_text, tell_memory};
 use cody_words::{LineBuf, write_number};
 use export_lists::{Generated, generate};
-use mm_outside::{Failed, Files, List, Sink, Text, print};
+use mm_outside::{Failed, Files, List, Sink, Text};
 use std::alloc::Global;
 
 /// Room for the name of a file beside its folder, and for what is said at the end.
@@ -127,10 +127,10 @@ fn write_files<F: Files>(
     write_sources(folder, &made.sources, name, files)
 }
 
-/// Generates a project of so many units in a folder, from a seed: writes its project file and its sources, and prints how
-/// many files that are. It answers the exit status: 0 all done, 3 want of memory before any file is written, 5 a write of a
-/// file or of the sink failed. Behind a failed write no further file is written. A message that can't be printed changes
-/// nothing. The generated projects are this project's own.
+/// Generates a project of so many units in a folder, from a seed: writes its project file and its sources, and prints
+/// how many files that are. It answers the exit status: 0 all done, 3 want of memory before any file is written, 5 a
+/// write of a file or of the sink failed. Behind a failed write no further file is written. A message that can't be
+/// printed changes nothing. The generated projects are this project's own.
 pub fn run_gen<F: Files, K: Sink>(
     alloc: Global,
     folder: &[u8],
@@ -141,37 +141,21 @@ pub fn run_gen<F: Files, K: Sink>(
 ) -> u8
     requires folder { length folder.now ≤ 400 }
     requires units { units ≤ 2000 }
-    ensures run { RunsGen (record {
-      files_before = F.content files.old;
-      files_now = F.content files.new;
-      file_writes_before = F.write_faults files.old;
-      file_writes_now = F.write_faults files.new;
-      out_before = K.written out.old;
-      out_now = K.written out.new;
-      out_writes_before = K.faults out.old;
-      out_writes_now = K.faults out.new;
-    })
-        folder.now units seed result }
+    ensures run { Ends (GeneratesSo (Rose (F.write_faults files.old) (F.write_faults files.new)) (F.content files.old) (F.content files.new) folder.now units seed)
+        (output_of K.written K.faults out.old out.new) result }
     ensures read_faults { F.read_faults files.new ≡ F.read_faults files.old }
-
-    // Where no write fails, all is done, unless memory runs out before.
-    ensures complete { ¬ (Rose (F.write_faults files.old) (F.write_faults files.new)) → ¬ (Rose (K.faults out.old) (K.faults out.new)) → (result ≡ 0) ⊎ (result ≡ 3) }
+    ensures unfailing { result ≡ 0 → F.write_faults files.new ≡ F.write_faults files.old }
 {
     let Ok(mut text) = LineBuf::new(alloc, folder.len() as u32 + ROOM) else {
-        print_text(b"modmap: out of memory\n", out);
-        return 3;
+        return tell_memory(out);
     };
     let Ok(made) = generate(alloc, folder, units, seed) else {
-        print_text(b"modmap: out of memory\n", out);
-        return 3;
+        return tell_memory(out);
     };
     let Ok(()) = write_files(folder, &made, &mut text, files) else {
         print_text(b"modmap: write failed\n", out);
         return 5;
     };
     tell_count(units + 1, &mut text);
-    match print(out, text.octets()) {
-        Ok(()) => 0,
-        Err(Failed) => 5,
-    }
+    issue(text.octets(), true, out)
 }

@@ -1,6 +1,6 @@
 //! Text on its way to a sink.
 
-ghost use Rattle.std.specs.Prelude.{◌≡◌, ◌≤◌, ◌+◌, ◌++◌, [], length, decimal, codes, IfOk};
+ghost use Rattle.std.specs.Prelude.{◌≡◌, ◌≤◌, ◌+◌, [], length, IfOk};
 ghost use Rattle.mm_outside.specs.Causes.{HasCause};
 ghost use Rattle.cody_words.specs.Buffers.{Appends};
 ghost use Rattle.histories.specs.Entries.{IsEntry};

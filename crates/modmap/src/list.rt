@@ -1,15 +1,14 @@
 //! Compiling the units of a project one by one, and reporting on them.
 
-ghost use Rattle.std.specs.Prelude.{◌≡◌, ◌≤◌, length, not, IfOk, OnErr};
+ghost use Rattle.std.specs.Prelude.{◌≡◌, ◌⊎◌, length, not, IfOk, OnErr};
 ghost use Rattle.std.specs.List.{list_any};
 ghost use Rattle.mm_outside.specs.Causes.{Rose};
 ghost use Rattle.unit_registry.specs.Projects.{unit_count};
-ghost use Rattle.modmap.specs.Endings.{Issues, Tells};
-ghost use Rattle.modmap.specs.ListRuns.{BuiltHaveNames, Fit, ReportsOn, RunsList, ended_by, has_failed, list_report};
+ghost use Rattle.modmap.specs.Endings.{Ends, Issues, Tells, output_of};
+ghost use Rattle.modmap.specs.ListRuns.{Fit, ListsSo, ReportsOn, ended_by, has_failed, list_report};
 
-use crate::ending::Ending;
 use crate::project_file::read_project;
-use crate::telling::{issue, tell};
+use crate::telling::{issue, tell, tell_memory};
 use crate::unit_files::{Gathered, Stop, gather};
 use export_lists::{Listing, Outcome, list_project};
 use mm_outside::{Files, Memory, Sink};
@@ -18,10 +17,10 @@ use unit_registry::Project;
 
 /// Prints the message of a stop, and answers the status.
 fn tell_stop<K: Sink>(alloc: Global, stop: &Stop, out: &mut K) -> u8
-    ensures { Tells (ended_by stop.now) (K.faults out.old) (K.faults out.new) (K.written out.old) (K.written out.new) result }
+    ensures { Tells (ended_by stop.now) (output_of K.written K.faults out.old out.new) result }
 {
     match stop {
-        Stop::Memory => tell(alloc, Ending::OutOfMemory, out),
+        Stop::Memory => tell_memory(out),
         Stop::File { name, fault } => tell(alloc, fault.ending(name.octets()), out),
     }
 }
@@ -58,7 +57,7 @@ fn issue_listing<K: Sink>(
     out: &mut K,
 ) -> Result<u8, Memory>
     requires { length listing.now ≡ unit_count project.now }
-    ensures issued { IfOk result (λ status. Issues (list_report project.now listing.now) (K.faults out.old) (K.faults out.new) (K.written out.old) (K.written out.new) status) }
+    ensures issued { IfOk result (λ status. Issues (list_report project.now listing.now) (output_of K.written K.faults out.old out.new) status) }
     ensures memory { OnErr result (out.new ≡ out.old) }
 {
     let text = listing.write(alloc, project)?;
@@ -66,7 +65,8 @@ fn issue_listing<K: Sink>(
     Ok(issue(text.octets(), good, out))
 }
 
-/// Compiles the units one by one, prints the report on them, and answers the status. It wants memory only before it prints.
+/// Compiles the units one by one, prints the report on them, and answers the status. It wants memory only before it
+/// prints.
 fn report_on<K: Sink>(
     alloc: Global,
     project: &Project,
@@ -74,7 +74,7 @@ fn report_on<K: Sink>(
     out: &mut K,
 ) -> Result<u8, Memory>
     requires { Fit project.now (unit_count project.now) gathered.now.sources gathered.now.built }
-    ensures issued { IfOk result (λ status. ReportsOn project.now gathered.now.sources gathered.now.built (K.faults out.old) (K.faults out.new) (K.written out.old) (K.written out.new) status) }
+    ensures issued { IfOk result (λ status. ReportsOn project.now gathered.now.sources gathered.now.built (output_of K.written K.faults out.old out.new) status) }
     ensures memory { OnErr result (out.new ≡ out.old) }
 {
     let sources = gathered.sources.as_slice();
@@ -83,14 +83,16 @@ fn report_on<K: Sink>(
     issue_listing(alloc, project, &listing, out)
 }
 
-/// Compiles the units of a project one by one, without a server: reads the project file of this name, and then for each
-/// unit in the order of the project its source, or the file of its interface where it was built before; and prints the
-/// report on them. It answers the exit status: 0 all done, 1 a unit failed, 3 want of memory, 4 a file is absent or a read
-/// of it failed, 5 a write of the sink failed, 6 a file is refused or too long. Where a file isn't taken, nothing of the
-/// report is printed, and the message is. No file changes. The statuses and the report are this project's own.
+/// Compiles the units of a project one by one, without a server: reads the project file of this name, and then for
+/// each unit in the order of the project its source, or the file of its interface where it was built before; and
+/// prints the report on them. It answers the exit status: 0 all done, 1 a unit failed, 3 want of memory, 4 a file is
+/// absent or a read of it failed, 5 a write of the sink failed, 6 a file is refused or too long. Where a file isn't
+/// taken, nothing of the report is printed, and the message is. No file changes. The statuses and the report are this
+/// project's own.
 pub fn run_list<F: Files, K: Sink>(alloc: Global, name: &[u8], files: &mut F, out: &mut K) -> u8
-    ensures run { RunsList (Rose (F.read_faults files.old) (F.read_faults files.new)) (F.content files.old) (F.content files.new)
-        name.now (K.faults out.old) (K.faults out.new) (K.written out.old) (K.written out.new) result }
+    ensures run { Ends (ListsSo (Rose (F.read_faults files.old) (F.read_faults files.new)) (F.content files.old) (F.content files.new) name.now)
+        (output_of K.written K.faults out.old out.new) result }
+    ensures unfailing { (result ≡ 0) ⊎ (result ≡ 1) → F.read_faults files.new ≡ F.read_faults files.old }
     ensures files { F.write_faults files.new ≡ F.write_faults files.old }
 {
     let project = match read_project(alloc, files, name) {
@@ -101,7 +103,7 @@ pub fn run_list<F: Files, K: Sink>(alloc: Global, name: &[u8], files: &mut F, ou
     match gather(alloc, &project, files) {
         Ok(gathered) => match report_on(alloc, &project, &gathered, out) {
             Ok(status) => status,
-            Err(Memory) => tell(alloc, Ending::OutOfMemory, out),
+            Err(Memory) => tell_memory(out),
         },
         Err(stop) => tell_stop(alloc, &stop, out),
     }

@@ -2,8 +2,10 @@
 //! and replays traces, compiles the units of a project one by one with a report, and generates projects.
 #![tactic(auto)]
 
-ghost use Rattle.std.specs.Prelude.{◌↔◌, IsTrue};
+ghost use Rattle.std.specs.Prelude.{◌≡◌, ◌≢◌, ◌↔◌, IsTrue};
+ghost use Rattle.std.specs.IoError.{error_kind};
 ghost use Rattle.modmap.specs.Commands.{BeginsWithPipe};
+ghost use Rattle.modmap.specs.Endings.{BadWords, OutOfMemory, told_by};
 
 mod adapters;
 mod alone;
@@ -37,9 +39,11 @@ mod verb;
 use adapters::{Pipe, WriterSink};
 use alone::run_alone;
 use disk::DiskFiles;
+use ending::Ending;
+use std::env;
+use std::io::{self, ErrorKind};
 use std::process::ExitCode;
-use std::{env, io};
-use telling::print_text;
+use telling::tell;
 
 /// The words of the command line, without the program's name.
 fn words(rt: &HostRuntime) -> io::Result<Vec<String>> {
@@ -60,14 +64,25 @@ fn begins_with_pipe(words: &[String]) -> bool
     }
 }
 
+/// How a run ends that has no words: one of them isn't UTF-8, or there is no memory for them.
+fn ending_without_words(error: &io::Error) -> Ending<'static>
+    ensures not_utf8 { error_kind error.now ≡ ErrorKind.InvalidData → told_by result ≡ BadWords }
+    ensures no_memory { error_kind error.now ≢ ErrorKind.InvalidData → told_by result ≡ OutOfMemory }
+{
+    if error.kind() == ErrorKind::InvalidData {
+        Ending::BadWords
+    } else {
+        Ending::OutOfMemory
+    }
+}
+
 fn main(rt: HostRuntime) -> ExitCode {
-    let Ok(words) = words(&rt) else {
-        // Want of memory for the words.
-        print_text(
-            b"modmap: out of memory\n",
-            &mut WriterSink::new(rt.stderr()),
-        );
-        return ExitCode::from(3);
+    let words = match words(&rt) {
+        Ok(words) => words,
+        Err(error) => {
+            let mut out = WriterSink::new(rt.stderr());
+            return ExitCode::from(tell(rt.alloc(), ending_without_words(&error), &mut out));
+        }
     };
     let mut files = DiskFiles::new(&rt);
     let mut link = Pipe::new(rt.stdin(), rt.stdout());

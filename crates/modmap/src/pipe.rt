@@ -4,7 +4,7 @@ ghost use Rattle.std.specs.Prelude.{◌≡◌, ◌≢◌, ◌<◌, ◌≤◌, �
 ghost use Rattle.mm_outside.specs.Causes.{Rose};
 ghost use Rattle.mm_outside.specs.Told.{Told};
 ghost use Rattle.connection_core.specs.Sessions.{octets_taken, StandsAfter};
-ghost use Rattle.connection_core.specs.Ends.{last_of};
+ghost use Rattle.connection_core.specs.Ends.{HasCauses, last_of};
 ghost use Rattle.registry_core.specs.Alone.{told_alone};
 ghost use Rattle.registry_core.specs.Ledgers.{leaving};
 ghost use Rattle.modmap.specs.Serving.{ServesAlone};
@@ -30,8 +30,7 @@ pub fn pipe<L: Link>(
     requires fewest { 3 ≤ entries }
     requires most { entries ≤ 1048576 }
     ensures served { IfOk result (λ how. Told (ServesAlone project.now entries how) (L.octets link.old) (L.octets link.new)) }
-    ensures read_fault { result ≡ Ok ConnEnd.ReadFault → Rose (L.read_faults link.old) (L.read_faults link.new) }
-    ensures write_fault { result ≡ Ok ConnEnd.WriteFault → Rose (L.write_faults link.old) (L.write_faults link.new) }
+    ensures causes { IfOk result (λ how. HasCauses (L.read_faults link.old) (L.read_faults link.new) (L.write_faults link.old) (L.write_faults link.new) how) }
     ensures memory { OnErr result (link.new ≡ link.old) }
 {
     let mut session = Session::new(alloc)?;
@@ -58,8 +57,7 @@ where
     requires nothing { desk.old.book.ledger ≡ record { project = project.now; workers = 1; limit = desk.old.book.ledger.limit; entries = [] } }
     requires fewest { 3 ≤ desk.old.book.ledger.limit }
     ensures left { Told (Left project.now desk.old.book.ledger.limit result desk.new.book.ledger.entries) (L.octets link.old) (L.octets link.new) }
-    ensures read_fault { result ≡ ConnEnd.ReadFault → Rose (L.read_faults link.old) (L.read_faults link.new) }
-    ensures write_fault { result ≡ ConnEnd.WriteFault → Rose (L.write_faults link.old) (L.write_faults link.new) }
+    ensures causes { HasCauses (L.read_faults link.old) (L.read_faults link.new) (L.write_faults link.old) (L.write_faults link.new) result }
 {
     let _conn = desk.open().unwrap();
     let how = serve(project, session, desk, link, room);
@@ -94,8 +92,7 @@ where
     requires stands { Stands project.now session.old (told_alone S.kept S.held desk.old) [] }
     ensures served { Told (Served project.now desk.old.book.ledger.limit result (told_alone S.kept S.held desk.new)) (L.octets link.old) (L.octets link.new) }
     ensures alone { IsAlone project.now desk.old.book.ledger.limit (told_alone S.kept S.held desk.new) }
-    ensures read_fault { result ≡ ConnEnd.ReadFault → Rose (L.read_faults link.old) (L.read_faults link.new) }
-    ensures write_fault { result ≡ ConnEnd.WriteFault → Rose (L.write_faults link.old) (L.write_faults link.new) }
+    ensures causes { HasCauses (L.read_faults link.old) (L.read_faults link.new) (L.write_faults link.old) (L.write_faults link.new) result }
 {
     loop {
         if let Some(end) = serve_some(project, session, desk, link, room) {
@@ -123,10 +120,10 @@ where
     ensures alone { IsAlone project.now desk.old.book.ledger.limit (told_alone S.kept S.held desk.new) }
     ensures stands { result ≡ None → (fed : List ℕ) × Stands project.now session.new (told_alone S.kept S.held desk.new) fed }
     ensures count { result ≡ None → octets_taken session.old < octets_taken session.new }
-    ensures read_faults { L.read_faults link.old ≤ L.read_faults link.new }
-    ensures write_faults { L.write_faults link.old ≤ L.write_faults link.new }
     ensures read_fault { result ≡ Some ConnEnd.ReadFault → Rose (L.read_faults link.old) (L.read_faults link.new) }
     ensures write_fault { result ≡ Some ConnEnd.WriteFault → Rose (L.write_faults link.old) (L.write_faults link.new) }
+    ensures read_kept { result ≢ Some ConnEnd.ReadFault → L.read_faults link.new ≡ L.read_faults link.old }
+    ensures write_kept { result ≢ Some ConnEnd.WriteFault → L.write_faults link.new ≡ L.write_faults link.old }
 {
     match link.read(room) {
         Ok(0) => Some(session.end_of_input()),
@@ -157,9 +154,9 @@ where
     ensures stands { result ≡ None → (fed : List ℕ) × Stands project.now session.new (told_alone S.kept S.held desk.new) fed }
     ensures count { result ≡ None → octets_taken session.new ≡ octets_taken session.old + length piece.now }
     ensures read_faults { L.read_faults link.new ≡ L.read_faults link.old }
-    ensures write_faults { L.write_faults link.old ≤ L.write_faults link.new }
     ensures no_read_fault { result ≢ Some ConnEnd.ReadFault }
     ensures write_fault { result ≡ Some ConnEnd.WriteFault → Rose (L.write_faults link.old) (L.write_faults link.new) }
+    ensures write_kept { result ≢ Some ConnEnd.WriteFault → L.write_faults link.new ≡ L.write_faults link.old }
 {
     let mut at = 0;
     loop {

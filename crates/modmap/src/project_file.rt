@@ -1,11 +1,11 @@
 //! Reading a project file.
 
-ghost use Rattle.std.specs.Prelude.{◌≡◌, ◌≤◌, ◌+◌, Some, length, IfErr, IfOk};
+ghost use Rattle.std.specs.Prelude.{◌≡◌, ◌≤◌, ◌+◌, Some, length, IfErr, IfOk, OnOk};
 ghost use Rattle.mm_outside.specs.Causes.{Rose};
 ghost use Rattle.mm_outside.specs.Told.{Told};
 ghost use Rattle.cody_words.specs.Canonical.{word_room};
 ghost use Rattle.unit_registry.specs.Reasons.{reason_text};
-ghost use Rattle.modmap.specs.Endings.{message_room, told_by};
+ghost use Rattle.modmap.specs.Endings.{frame_room, message_room, reason_room, told_by};
 ghost use Rattle.modmap.specs.ListRuns.{IsDeclared};
 ghost use Rattle.modmap.specs.ProjectFiles.{FindsProject, IsOfFile, IsReadAs, most_project_octets, read_as};
 
@@ -20,7 +20,7 @@ const MOST_OCTETS: u64 = 16_777_216;
 /// The text of a reason, which is short.
 fn reason_text(reason: ProjectReason) -> &'static [u8]
     ensures text { result.now ≡ reason_text reason }
-    ensures short { length result.now ≤ 20 }
+    ensures short { length result.now ≤ reason_room }
 {
     reason.text()
 }
@@ -31,7 +31,7 @@ fn parse_project<'a>(alloc: Global, name: &'a [u8], text: &[u8]) -> Result<Proje
     ensures read { IsReadAs ⊥ name.now (read_as result) (Some text.now) }
     ensures declared { IfOk result IsDeclared }
     ensures kind { IfErr result (λ ending. IsOfFile (told_by ending)) }
-    ensures room { IfErr result (λ ending. message_room (told_by ending) ≤ word_room name.now + 80) }
+    ensures room { IfErr result (λ ending. message_room (told_by ending) ≤ word_room name.now + reason_room + frame_room) }
 {
     match Project::read(alloc, text) {
         Ok(project) => Ok(project),
@@ -53,7 +53,8 @@ pub fn read_project<'a, F: Files>(
     ensures content { Told (FindsProject (Rose (F.read_faults files.old) (F.read_faults files.new)) name.now (read_as result)) (F.content files.old) (F.content files.new) }
     ensures declared { IfOk result IsDeclared }
     ensures kind { IfErr result (λ ending. IsOfFile (told_by ending)) }
-    ensures room { IfErr result (λ ending. message_room (told_by ending) ≤ word_room name.now + 80) }
+    ensures room { IfErr result (λ ending. message_room (told_by ending) ≤ word_room name.now + reason_room + frame_room) }
+    ensures kept { OnOk result (F.read_faults files.new ≡ F.read_faults files.old) }
     ensures read_faults { F.read_faults files.old ≤ F.read_faults files.new }
     ensures write_faults { F.write_faults files.new ≡ F.write_faults files.old }
 {

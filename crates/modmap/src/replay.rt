@@ -1,27 +1,26 @@
 //! Replaying a trace: its entries, and the replies that come with each.
 
-ghost use Rattle.std.specs.Prelude.{◌≡◌, ◌≤◌, ◌<◌, ◌+◌, ◌^◌, ◌==◌, ◌||◌, ◌++◌, [], None, length, filter, slice_get, option_map, Some, min, false, IfOk, OnErr, vec_capacity};
+ghost use Rattle.std.specs.Prelude.{◌≡◌, ◌⊎◌, ◌≤◌, ◌<◌, ◌+◌, ◌^◌, ◌==◌, ◌||◌, ◌++◌, [], None, length, filter, slice_get, option_map, Some, min, false, IfOk, OnErr, vec_capacity};
 ghost use Rattle.mm_outside.specs.Causes.{HasCause, Rose};
 ghost use Rattle.mm_outside.specs.Sending.{AppendsAll};
 ghost use Rattle.mm_outside.specs.Told.{Told};
-ghost use Rattle.std.specs.Option.{option_map_or};
+ghost use Rattle.std.specs.Option.{option_map_or, option_to_list};
 ghost use Rattle.histories.specs.Answered.{accepts, stored_unit};
 ghost use Rattle.histories.specs.Entries.{IsEntry};
 ghost use Rattle.histories.specs.Histories.{IsFirstFault, IsLegal};
 ghost use Rattle.registry_core.specs.Ledgers.{Appends, Passes, done_in, open_in};
 ghost use Rattle.registry_core.specs.Shelves.{ComesWith};
-ghost use Rattle.modmap.specs.Endings.{Issues};
-ghost use Rattle.modmap.specs.Reports.{RunsReport};
+ghost use Rattle.modmap.specs.Endings.{Ends, Issues, output_of};
+ghost use Rattle.modmap.specs.Reports.{ReportsSo};
 ghost use Rattle.modmap.specs.Paging.{Puts};
 ghost use Rattle.modmap.specs.Replays.{end_line, entries_text, entry_text, placed_text, replay_report, replay_text, whole_report};
 ghost use Rattle.modmap.specs.TraceFiles.{HasForm};
-ghost use Rattle.modmap.specs.Plays.{HasPlayed, IsKind, IsOf, IsWaitingList, awaited_by, ends_by, found_texts, one_option, option_text, wait_at, waits_in};
+ghost use Rattle.modmap.specs.Plays.{HasPlayed, IsKind, IsOf, IsWaitingList, awaited_by, ends_by, found_texts, option_text, wait_at, waits_in};
 
 use crate::check::{REPORT_ROOM, issue_illegal};
-use crate::ending::Ending;
 use crate::held::Held;
 use crate::sources::read_sources;
-use crate::telling::tell;
+use crate::telling::{tell, tell_memory};
 use cody_words::LineBuf;
 use connection_replies::ReplyBuf;
 use histories::{Answer, Entry, Wait};
@@ -216,7 +215,8 @@ fn is_busy(book: &Book<NoShelf>, workers: u32) -> bool
     book.open_count() + book.done_count() == workers
 }
 
-/// Whether a unit may end with an act that is answered so at once: it may end one itself, or no worker is free any more.
+/// Whether a unit may end with an act that is answered so at once: it may end one itself, or no worker is free any
+/// more.
 fn may_end(book: &Book<NoShelf>, workers: u32, act: Act, own: Option<Answer>) -> bool
     ensures { result ≡ ((open_in book.now.ledger + done_in book.now.ledger == workers) || ends_by act own) }
 {
@@ -227,7 +227,7 @@ fn may_end(book: &Book<NoShelf>, workers: u32, act: Act, own: Option<Answer>) ->
 /// Adds an import that waits for this unit, if there is one.
 fn add_waiting(waiting: &mut Vec<Wait>, place: u32, conn: u32, unit: Option<u32>)
     requires { length waiting.old.items < vec_capacity waiting.old }
-    ensures items { waiting.new.items ≡ waiting.old.items ++ one_option (option_map (wait_at place conn) unit) }
+    ensures items { waiting.new.items ≡ waiting.old.items ++ option_to_list (option_map (wait_at place conn) unit) }
     ensures capacity { vec_capacity waiting.new ≡ vec_capacity waiting.old }
 {
     if let Some(unit) = unit {
@@ -281,7 +281,8 @@ fn put_entered<K: Sink>(
     put_found(project, place, own, held, reply, out)
 }
 
-/// Enters an entry that passes the checks, and puts its lines. After `Failed` the imports that wait aren't those any more.
+/// Enters an entry that passes the checks, and puts its lines. After `Failed` the imports that wait aren't those any
+/// more.
 fn play<K: Sink>(
     project: &Project,
     workers: u32,
@@ -475,7 +476,7 @@ fn issue_replay<K: Sink>(
 ) -> Result<u8, Memory>
     requires form { HasForm trace.now }
     requires legal { IsLegal project.now trace.now.workers trace.now.limit trace.now.entries }
-    ensures issued { IfOk result (λ status. Issues (whole_report project.now trace.now) (K.faults out.old) (K.faults out.new) (K.written out.old) (K.written out.new) status) }
+    ensures issued { IfOk result (λ status. Issues (whole_report project.now trace.now) (output_of K.written K.faults out.old out.new) status) }
     ensures memory { OnErr result (out.new ≡ out.old) }
 {
     let printed = print_replay(alloc, project, trace, out)?;
@@ -497,7 +498,7 @@ fn issue_fault<K: Sink>(
     requires fault { IsFirstFault project.now trace.now.workers trace.now.limit trace.now.entries place reason }
     requires room { 64 ≤ line.old.spare }
     requires empty { line.old.octets ≡ [] }
-    ensures { Issues (replay_report project.now trace.now) (K.faults out.old) (K.faults out.new) (K.written out.old) (K.written out.new) result }
+    ensures { Issues (replay_report project.now trace.now) (output_of K.written K.faults out.old out.new) result }
 {
     issue_illegal(place, reason, line, out)
 }
@@ -510,7 +511,7 @@ fn replay_trace<K: Sink>(
     out: &mut K,
 ) -> Result<u8, Memory>
     requires { HasForm trace.now }
-    ensures issued { IfOk result (λ status. Issues (replay_report project.now trace.now) (K.faults out.old) (K.faults out.new) (K.written out.old) (K.written out.new) status) }
+    ensures issued { IfOk result (λ status. Issues (replay_report project.now trace.now) (output_of K.written K.faults out.old out.new) status) }
     ensures memory { OnErr result (out.new ≡ out.old) }
 {
     let mut line = LineBuf::new(alloc, REPORT_ROOM)?;
@@ -534,14 +535,15 @@ pub fn run_replay<F: Files, K: Sink>(
     files: &mut F,
     out: &mut K,
 ) -> u8
-    ensures run { RunsReport (Rose (F.read_faults files.old) (F.read_faults files.new)) (F.content files.old) (F.content files.new)
-        replay_report project.now trace.now (K.faults out.old) (K.faults out.new) (K.written out.old) (K.written out.new) result }
+    ensures run { Ends (ReportsSo (Rose (F.read_faults files.old) (F.read_faults files.new)) (F.content files.old) (F.content files.new) replay_report project.now trace.now)
+        (output_of K.written K.faults out.old out.new) result }
+    ensures unfailing { (result ≡ 0) ⊎ (result ≡ 1) → F.read_faults files.new ≡ F.read_faults files.old }
     ensures files { F.write_faults files.new ≡ F.write_faults files.old }
 {
     match read_sources(alloc, project, trace, files) {
         Ok(sources) => match replay_trace(alloc, &sources.project, &sources.trace, out) {
             Ok(status) => status,
-            Err(Memory) => tell(alloc, Ending::OutOfMemory, out),
+            Err(Memory) => tell_memory(out),
         },
         Err(ending) => tell(alloc, ending, out),
     }

@@ -1,9 +1,9 @@
 //! Printing how a run ended.
 
-ghost use Rattle.std.specs.Prelude.{◌≡◌, ◌≤◌, ◌+◌, ◌*◌, [], length, IfOk};
+ghost use Rattle.std.specs.Prelude.{◌≡◌, ◌≤◌, ◌+◌, [], IfOk};
 ghost use Rattle.mm_outside.specs.Told.{Told};
 ghost use Rattle.cody_words.specs.Canonical.{word_room};
-ghost use Rattle.modmap.specs.Endings.{message_room, told_by, Issues, Prints, Tells};
+ghost use Rattle.modmap.specs.Endings.{OutOfMemory, frame_room, message_room, output_of, reason_room, told_by, Issues, Prints, Tells};
 
 use crate::ending::Ending;
 use cody_words::LineBuf;
@@ -11,33 +11,34 @@ use mm_outside::{Failed, Memory, Sink, print};
 use std::alloc::Global;
 
 /// The most octets of a message beside the name and the reason in it.
-const FRAME_ROOM: u32 = 100;
+const FRAME_ROOM: u32 = 60;
 
-/// Prints a text; where that fails, nothing more is printed, and no status changes.
+/// The most octets of the reason of a project file's first fault.
+const REASON_ROOM: usize = 20;
+
+/// Prints a text, whole unless a write fails, which changes no status.
 pub fn print_text<K: Sink>(text: &[u8], out: &mut K)
     ensures { Told (Prints text.now (K.faults out.old) (K.faults out.new)) (K.written out.old) (K.written out.new) }
 {
     let _ = print(out, text);
 }
 
-/// A buffer with room for a message with this name and this reason.
-fn framed_buffer(alloc: Global, name: &[u8], reason: &[u8]) -> Result<LineBuf, Memory>
-    ensures { IfOk result (λ buffer. (buffer.octets ≡ []) × (word_room name.now + length reason.now + 98 ≤ buffer.spare)) }
+/// A buffer with room for a message with this name and a reason of so many octets.
+fn framed_buffer(alloc: Global, name: &[u8], reason: usize) -> Result<LineBuf, Memory>
+    ensures { IfOk result (λ buffer. (buffer.octets ≡ []) × (word_room name.now + reason + frame_room ≤ buffer.spare)) }
 {
-    if name.len() > 1_000_000_000 || reason.len() > 1_000 {
+    if name.len() > 1_000_000_000 || reason > 1_000 {
         return Err(Memory);
     }
-    LineBuf::new(
-        alloc,
-        3 * name.len() as u32 + reason.len() as u32 + FRAME_ROOM,
-    )
+    let word_room = 3 * name.len() as u32 + 2;
+    LineBuf::new(alloc, word_room + reason as u32 + FRAME_ROOM)
 }
 
-/// A buffer with room for a message with this name, and a reason of at most 20 octets.
+/// A buffer with room for a message with this name, and the reason of a project file's first fault.
 pub fn message_buffer(alloc: Global, name: &[u8]) -> Result<LineBuf, Memory>
-    ensures { IfOk result (λ buffer. (buffer.octets ≡ []) × (word_room name.now + 98 ≤ buffer.spare)) }
+    ensures { IfOk result (λ buffer. (buffer.octets ≡ []) × (word_room name.now + reason_room + frame_room ≤ buffer.spare)) }
 {
-    framed_buffer(alloc, name, b"")
+    framed_buffer(alloc, name, REASON_ROOM)
 }
 
 /// A buffer with room for the message of the ending.
@@ -46,11 +47,11 @@ fn ending_buffer(alloc: Global, ending: Ending<'_>) -> Result<LineBuf, Memory>
 {
     match ending {
         Ending::CannotRead { name } | Ending::FileTooLong { name } => {
-            framed_buffer(alloc, name, b"")
+            framed_buffer(alloc, name, 0)
         }
-        Ending::Refused { name, reason, .. } => framed_buffer(alloc, name, reason),
+        Ending::Refused { name, reason, .. } => framed_buffer(alloc, name, reason.len()),
         Ending::BadWords | Ending::OutOfMemory | Ending::Served(_) => {
-            framed_buffer(alloc, b"", b"")
+            framed_buffer(alloc, b"", 0)
         }
     }
 }
@@ -58,21 +59,28 @@ fn ending_buffer(alloc: Global, ending: Ending<'_>) -> Result<LineBuf, Memory>
 /// Prints the message of the ending, and answers its status. Where there is no memory for the message, the run ends for
 /// want of memory in its place.
 pub fn tell<K: Sink>(alloc: Global, ending: Ending<'_>, out: &mut K) -> u8
-    ensures { Tells (told_by ending.entry) (K.faults out.old) (K.faults out.new) (K.written out.old) (K.written out.new) result }
+    ensures { Tells (told_by ending.entry) (output_of K.written K.faults out.old out.new) result }
 {
     let Ok(mut message) = ending_buffer(alloc, ending) else {
-        print_text(b"modmap: out of memory\n", out);
-        return 3;
+        return tell_memory(out);
     };
     ending.write_message(&mut message);
     print_text(message.octets(), out);
     ending.status()
 }
 
-/// Prints a report, and answers the status: 0 where all that it tells of is well, 1 where it isn't, and 5 where it couldn't
-/// be printed whole.
+/// Prints that memory was wanted, and answers the status.
+pub fn tell_memory<K: Sink>(out: &mut K) -> u8
+    ensures { Tells OutOfMemory (output_of K.written K.faults out.old out.new) result }
+{
+    print_text(b"modmap: out of memory\n", out);
+    3
+}
+
+/// Prints a report, and answers the status: 0 where all that it tells of is well, 1 where it isn't, and 5 where it
+/// couldn't be printed whole.
 pub fn issue<K: Sink>(report: &[u8], good: bool, out: &mut K) -> u8
-    ensures { Issues (record { text = report.now; good = good }) (K.faults out.old) (K.faults out.new) (K.written out.old) (K.written out.new) result }
+    ensures { Issues (record { text = report.now; good = good }) (output_of K.written K.faults out.old out.new) result }
 {
     match print(out, report) {
         Ok(()) if good => 0,

@@ -1,18 +1,18 @@
 //! Reading the files of the units of a project.
 
-ghost use Rattle.std.specs.Prelude.{◌≡◌, ◌≢◌, ◌⊎◌, ◌<◌, ◌≤◌, ◌+◌, ℕ, suc, length, true, false, None, IfOk, OnOk, IfErr};
+ghost use Rattle.std.specs.Prelude.{◌≡◌, ◌≢◌, ◌⊎◌, ◌<◌, ◌≤◌, suc, length, true, false, None, IfOk, OnOk, IfErr};
 ghost use Rattle.mm_outside.specs.Causes.{Rose};
 ghost use Rattle.mm_outside.specs.Told.{Told};
 ghost use Rattle.header_units.specs.Names.{name_kind};
 ghost use Rattle.unit_registry.specs.Projects.{is_built, name_of, unit_count};
 ghost use Rattle.modmap.specs.Endings.{OutOfMemory, told_by};
-ghost use Rattle.modmap.specs.ListRuns.{AddsSo, BuiltHaveNames, CmiSo, FileSo, Fit, GathersSo, SourceSo, Stay, TextSo, cmi_file, ended_at, ended_by};
+ghost use Rattle.modmap.specs.ListRuns.{AddsSo, BuiltHaveNames, CmiSo, FileSo, Fit, GathersSo, SourceSo, Stay, TextSo, cmi_file, ended_at, ended_by, most_source_octets};
 ghost use Rattle.modmap.specs.declared.unit_files.Stop.TheVariants as stop;
 
 use crate::ending::Ending;
 use cody_words::LineBuf;
 use export_lists::{Cmi, CmiError};
-use header_units::Name;
+use header_units::{CMI_NAME_ROOM, Name};
 use mm_outside::{Bytes, Files, List, Memory, ReadAllError, Text};
 use std::alloc::Global;
 use unit_registry::Project;
@@ -22,9 +22,6 @@ const MOST_SOURCE_OCTETS: u64 = 1_048_576;
 
 /// The most octets of the file of an interface.
 const MOST_CMI_OCTETS: u64 = 268_435_456;
-
-/// Room for the CMI name of any unit.
-const CMI_NAME_ROOM: u32 = 2_100;
 
 /// Why a file isn't taken.
 #[derive(Clone, Copy, Debug, PartialEq, Eq)]
@@ -133,6 +130,7 @@ fn read_source<F: Files>(
     requires unit { unit < unit_count project.now }
     requires source { is_built project.now unit ≡ false }
     ensures file { Told (Stay (SourceSo (Rose (F.read_faults files.old) (F.read_faults files.new)) project.now unit result)) (F.content files.old) (F.content files.new) }
+    ensures bound { IfOk result (λ text. length text ≤ most_source_octets) }
     ensures kept { OnOk result (F.read_faults files.new ≡ F.read_faults files.old) }
     ensures later { F.read_faults files.old ≤ F.read_faults files.new }
     ensures write_faults { F.write_faults files.new ≡ F.write_faults files.old }
@@ -292,6 +290,7 @@ pub fn gather<F: Files>(alloc: Global, project: &Project, files: &mut F) -> Resu
     requires named { BuiltHaveNames project.now }
     ensures files { Told (Stay (GathersSo (Rose (F.read_faults files.old) (F.read_faults files.new)) project.now result)) (F.content files.old) (F.content files.new) }
     ensures fit { IfOk result (λ gathered. Fit project.now (unit_count project.now) gathered.sources gathered.built) }
+    ensures kept { OnOk result (F.read_faults files.new ≡ F.read_faults files.old) }
     ensures later { F.read_faults files.old ≤ F.read_faults files.new }
     ensures write_faults { F.write_faults files.new ≡ F.write_faults files.old }
 {

@@ -1,5 +1,5 @@
 use Rattle.std.proofs.Common.{◌≤◌, ◌+◌, length}
-use Rattle.export_lists.specs.Drafts.{HasRead}
+use Rattle.export_lists.proofs.Readings.{HasRead}
 use Rattle.export_lists.proofs.cmi_reader.read_cmi.Given as goal
 
 abbrev pub invariant-loop-line : goal.invariant-loop-line

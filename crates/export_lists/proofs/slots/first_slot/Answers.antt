@@ -1,5 +1,5 @@
 use Rattle.std.proofs.Common.{arith, sym, ◌∙◌}
-use Rattle.export_lists.proofs.Listings.{built_inside, built_slot, source_slots}
+use Rattle.export_lists.proofs.Listings.{built_inside, built_slot, short_source, source_slots}
 use Rattle.export_lists.proofs.slots.first_slot.Goals as goal
 
 pub bounds-built-place : goal.bounds-built-place
@@ -8,6 +8,12 @@ bounds-built-place c =
     let place = c.requires.place in
     let count = c.requires.built in
     omega arith
+
+pub source_slot-requires : goal.source_slot-requires
+source_slot-requires c = record {
+  number = c.requires.number;
+  short = short_source 2147483648 c.args.sources.now c.args.number c.index-sources-number.result c.octets.result.now c.requires.short (let n = c.requires.number in let m = c.requires.sources in omega arith) c.index-sources-number.is c.octets.ensures;
+}
 
 pub returns-then-is_built : goal.returns-then-is_built
 returns-then-is_built c =

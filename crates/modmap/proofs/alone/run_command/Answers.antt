@@ -1,6 +1,9 @@
 use Rattle.std.proofs.Common.{ap, refl, subst}
-use Rattle.modmap.specs.Commands.{task_of, AsksFor}
-use Rattle.modmap.proofs.Tasks.{check_runs, gen_bounds, gen_runs, list_runs, pipe_runs, replay_runs, runs_same}
+use Rattle.modmap.specs.Commands.{Pipe, Check, Replay, ListUnits, Generate, task_of, AsksFor}
+use Rattle.modmap.proofs.PrintLemmas.{ends_map}
+use Rattle.modmap.proofs.Runnings.{piped_well}
+use Rattle.modmap.proofs.Tasks.{ends_same, gen_bounds}
+use Rattle.modmap.proofs.Writings.{gen_zero}
 use Rattle.modmap.proofs.alone.run_command.Goals as goal
 
 pub run_gen-requires : goal.run_gen-requires
@@ -9,19 +12,36 @@ run_gen-requires g c =
     record { folder = bounds.0; units = bounds.1 }
 
 pub returns-in-Pipe-clause-run : goal.returns-in-Pipe-clause-run
-returns-in-Pipe-clause-run g c = runs_same _ _ _ _ _ _ _ _ (ap task_of c.in-Pipe.is) (pipe_runs _ _ _ _ _ _ _ _ c.run_pipe.ensures.run)
+returns-in-Pipe-clause-run g c = ends_same _ (Pipe c.in-Pipe.project.now c.in-Pipe.entries) _ _ _ (ap task_of c.in-Pipe.is) c.run_pipe.ensures.run
 
 pub returns-in-Check-clause-run : goal.returns-in-Check-clause-run
-returns-in-Check-clause-run g c = runs_same _ _ _ _ _ _ _ _ (ap task_of c.in-Check.is) (check_runs _ _ _ _ _ _ _ _ refl c.run_check.ensures.run)
+returns-in-Check-clause-run g c = ends_same _ (Check c.in-Check.project.now c.in-Check.trace.now) _ _ _ (ap task_of c.in-Check.is) (ends_map (λ ended so. record { reports_so = so; link = refl }) c.run_check.ensures.run)
 
 pub returns-in-Replay-clause-run : goal.returns-in-Replay-clause-run
-returns-in-Replay-clause-run g c = runs_same _ _ _ _ _ _ _ _ (ap task_of c.in-Replay.is) (replay_runs _ _ _ _ _ _ _ _ refl c.run_replay.ensures.run)
+returns-in-Replay-clause-run g c = ends_same _ (Replay c.in-Replay.project.now c.in-Replay.trace.now) _ _ _ (ap task_of c.in-Replay.is) (ends_map (λ ended so. record { reports_so = so; link = refl }) c.run_replay.ensures.run)
 
 pub returns-in-List-clause-run : goal.returns-in-List-clause-run
-returns-in-List-clause-run g c = runs_same _ _ _ _ _ _ _ _ (ap task_of c.in-List.is) (list_runs _ _ _ _ _ _ _ refl c.run_list.ensures.run)
+returns-in-List-clause-run g c = ends_same _ (ListUnits c.in-List.project.now) _ _ _ (ap task_of c.in-List.is) (ends_map (λ ended so. record { lists_so = so; link = refl }) c.run_list.ensures.run)
 
 pub returns-in-Gen-clause-run : goal.returns-in-Gen-clause-run
-returns-in-Gen-clause-run g c = runs_same _ _ _ _ _ _ _ _ (ap task_of c.in-Gen.is) (gen_runs _ _ _ _ _ _ _ _ _ refl c.run_gen.ensures.run)
+returns-in-Gen-clause-run g c = ends_same _ (Generate c.in-Gen.folder.now c.in-Gen.units c.in-Gen.seed) _ _ _ (ap task_of c.in-Gen.is) (ends_map (λ ended so. record { generates_so = so; link = refl }) c.run_gen.ensures.run)
+
+pub returns-in-Pipe-clause-unfailing : goal.returns-in-Pipe-clause-unfailing
+returns-in-Pipe-clause-unfailing g c = let run = c.run_pipe.ensures.run in piped_well _ c.in-Pipe.project.now c.in-Pipe.entries run.ending _ run.status_is c.run_pipe.ensures.files run.so
+
+pub returns-in-Check-clause-unfailing : goal.returns-in-Check-clause-unfailing
+returns-in-Check-clause-unfailing g c = λ done. record { file_reads = c.run_check.ensures.unfailing done; file_writes = c.run_check.ensures.files; link_reads = refl; link_writes = refl }
+
+pub returns-in-Replay-clause-unfailing : goal.returns-in-Replay-clause-unfailing
+returns-in-Replay-clause-unfailing g c = λ done. record { file_reads = c.run_replay.ensures.unfailing done; file_writes = c.run_replay.ensures.files; link_reads = refl; link_writes = refl }
+
+pub returns-in-List-clause-unfailing : goal.returns-in-List-clause-unfailing
+returns-in-List-clause-unfailing g c = λ done. record { file_reads = c.run_list.ensures.unfailing done; file_writes = c.run_list.ensures.files; link_reads = refl; link_writes = refl }
+
+pub returns-in-Gen-clause-unfailing : goal.returns-in-Gen-clause-unfailing
+returns-in-Gen-clause-unfailing g c = λ done.
+    let run = c.run_gen.ensures.run in
+    record { file_reads = c.run_gen.ensures.read_faults; file_writes = c.run_gen.ensures.unfailing (gen_zero _ _ _ c.in-Gen.folder.now c.in-Gen.units c.in-Gen.seed run.ending _ run.status_is run.so done); link_reads = refl; link_writes = refl }
 
 pub returns-in-Pipe-clause-files : goal.returns-in-Pipe-clause-files
 returns-in-Pipe-clause-files g c = λ none. c.run_pipe.ensures.files

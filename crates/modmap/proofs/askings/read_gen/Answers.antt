@@ -1,6 +1,6 @@
 use Rattle.std.proofs.Common.{◌∷◌, [], ◌≡◌, map, sym, ap, subst, ◌∙◌, arith}
-use Rattle.std.specs.Prelude.{string_bytes}
-use Rattle.modmap.specs.Askings.{AsksGen}
+use Rattle.std.specs.Prelude.{IfNone, string_bytes}
+use Rattle.modmap.specs.Commands.{Task, AsksToGenerate}
 use Rattle.modmap.proofs.AskedLemmas.{three_items}
 use Rattle.modmap.proofs.askings.read_gen.Goals as goal
 
@@ -11,4 +11,4 @@ returns-in-len3-clause-none c =
     ∙ ap (λ word. word ∷ string_bytes c.units-item.result ∷ string_bytes c.seed-item.result ∷ []) (sym c.as_bytes.ensures.value)
     ∙ ap (λ word. c.as_bytes.result.now ∷ word ∷ string_bytes c.seed-item.result ∷ []) (sym c.as_bytes-in-len3.ensures.value)
     ∙ ap (λ word. c.as_bytes.result.now ∷ c.as_bytes-in-len3.result.now ∷ word ∷ []) (sym c.as_bytes-in-len3-2.ensures.value) in
-    λ none folder units seed h. c.read_counts.ensures.none none folder units seed (subst (λ words. AsksGen words folder units seed) words_are h)
+    subst (λ words. IfNone c.read_counts.result ((task : Task) → AsksToGenerate words task → ⊥)) (sym words_are) c.read_counts.ensures.none

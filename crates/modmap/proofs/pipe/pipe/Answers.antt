@@ -2,9 +2,8 @@ use Rattle.std.proofs.Common.{sym, ap, subst, ◌∙◌, true≢false}
 use Rattle.std.specs.Option.{is_some}
 use Rattle.mm_outside.specs.Told.{Told}
 use Rattle.mm_outside.proofs.ToldLemmas.{Told-map}
-use Rattle.connection_core.specs.declared.conn_end.ConnEnd.TheVariants.{ReadFault, WriteFault}
 use Rattle.modmap.specs.Serving.{ServesAlone}
-use Rattle.modmap.proofs.Turns.{ready_anew, same_end}
+use Rattle.modmap.proofs.Turns.{ready_anew}
 use Rattle.modmap.proofs.pipe.pipe.Goals as goal
 
 pub new-requires-3-clause-built : goal.new-requires-3-clause-built
@@ -20,9 +19,3 @@ pub returns-clause-served : goal.returns-clause-served
 returns-clause-served g c =
     subst (λ limit. Told (ServesAlone c.args.project.now limit c.serve_alone.result) (g.L.Link.octets c.args.link.now) (g.L.Link.octets c.serve_alone.new.link)) (ap (λ book. book.ledger.limit) (c.new-desk.ensures.book ∙ c.in_ok-book.ensures))
     (Told-map (λ a b left. left.serves) c.serve_alone.ensures.left)
-
-pub returns-clause-read_fault : goal.returns-clause-read_fault
-returns-clause-read_fault g c = λ e. c.serve_alone.ensures.read_fault (same_end c.serve_alone.result ReadFault e)
-
-pub returns-clause-write_fault : goal.returns-clause-write_fault
-returns-clause-write_fault g c = λ e. c.serve_alone.ensures.write_fault (same_end c.serve_alone.result WriteFault e)

@@ -6,5 +6,5 @@ use Rattle.modmap.proofs.replay.issue_fault.Goals as goal
 
 pub returns : goal.returns
 returns g c =
-    issues_same (illegal_report c.args.place c.args.reason) (replay_report c.args.project.now c.args.trace.now) (g.K.Sink.faults c.args.out.now) (g.K.Sink.faults c.issue_illegal.new.out) (g.K.Sink.written c.args.out.now) (g.K.Sink.written c.issue_illegal.new.out) c.issue_illegal.result
+    issues_same (illegal_report c.args.place c.args.reason) (replay_report c.args.project.now c.args.trace.now) _ c.issue_illegal.result
     (sym (illegal_is c.args.project.now c.args.trace.now (whole_report c.args.project.now c.args.trace.now) c.args.place c.args.reason c.requires.fault)) c.issue_illegal.ensures

@@ -1,13 +1,13 @@
 use Rattle.std.proofs.Common.{IfOk, sym, subst}
 use Rattle.trace_text.specs.Legal.{TellsIllegal}
-use Rattle.modmap.specs.Endings.{Issues}
+use Rattle.modmap.specs.Endings.{Issues, output_of}
 use Rattle.modmap.specs.Replays.{whole_report}
 use Rattle.modmap.proofs.Reporting.{legal_is}
 use Rattle.modmap.proofs.replay.replay_trace.Goals as goal
 
 pub returns-in-Ok-clause-issued : goal.returns-in-Ok-clause-issued
 returns-in-Ok-clause-issued g c =
-    subst (λ report. IfOk c.issue_replay.result (λ status. Issues report (g.K.Sink.faults c.args.out.now) (g.K.Sink.faults c.issue_replay.new.out) (g.K.Sink.written c.args.out.now) (g.K.Sink.written c.issue_replay.new.out) status))
+    subst (λ report. IfOk c.issue_replay.result (λ status. Issues report (output_of g.K.Sink.written g.K.Sink.faults c.args.out.now c.issue_replay.new.out) status))
     (sym (legal_is c.args.project.now c.args.trace.now (whole_report c.args.project.now c.args.trace.now) c.in-Ok.ensures.legal)) c.issue_replay.ensures.issued
 
 pub issue_fault-requires-clause-fault : goal.issue_fault-requires-clause-fault

@@ -5,12 +5,12 @@ use Rattle.modmap.proofs.telling.issue.Goals as goal
 pub returns-in-Ok : goal.returns-in-Ok
 returns-in-Ok g c =
     let well : c.args.good ≡ true = search rules in
-    issues_good c.args.report.now c.args.good _ _ _ _ c.in-Ok.field-0 well c.in-Ok.ensures.written
+    issues_good c.args.report.now c.args.good _ c.in-Ok.field-0 well c.in-Ok.ensures.cause.kept c.in-Ok.ensures.written
 
 pub returns-in-Ok-2 : goal.returns-in-Ok-2
 returns-in-Ok-2 g c =
     let ill : c.args.good ≡ false = search rules in
-    issues_bad c.args.report.now c.args.good _ _ _ _ c.in-Ok-2.field-0 ill c.in-Ok-2.ensures.written
+    issues_bad c.args.report.now c.args.good _ c.in-Ok-2.field-0 ill c.in-Ok-2.ensures.cause.kept c.in-Ok-2.ensures.written
 
 pub returns-in-Err : goal.returns-in-Err
-returns-in-Err g c = issues_cut (record { text = c.args.report.now; good = c.args.good }) _ _ _ _ c.in-Err.field-0 c.in-Err.ensures.cause.failed c.in-Err.ensures.written
+returns-in-Err g c = issues_cut (record { text = c.args.report.now; good = c.args.good }) _ c.in-Err.field-0 c.in-Err.ensures.cause.failed c.in-Err.ensures.written

@@ -1,6 +1,15 @@
-use Rattle.std.proofs.Common.{inr, refl}
-use Rattle.modmap.specs.Endings.{OutOfMemory}
+use Rattle.std.proofs.Common.{◌≡◌, inl, inr, refl, rules, subst}
+use Rattle.mm_outside.specs.Told.{Told}
+use Rattle.modmap.specs.Endings.{OutOfMemory, Prints, message_of, told_by}
+use Rattle.modmap.proofs.PrintLemmas.{ends_as, ends_told}
 use Rattle.modmap.proofs.telling.tell.Goals as goal
 
 pub returns-in_default : goal.returns-in_default
-returns-in_default g c = record { ending = OutOfMemory; ending_is = inr refl; status_is = refl; message = c.print_text.ensures }
+returns-in_default g c = ends_as OutOfMemory (inr refl) (inr refl) c.tell_memory.ensures
+
+pub returns : goal.returns
+returns g c =
+    let same : c.octets.result.now ≡ message_of (told_by c.args.ending) = search rules in
+    ends_told c.args.ending _ c.status.ensures
+    (subst (λ text. Told (Prints text (g.K.Sink.faults c.args.out.now) (g.K.Sink.faults c.print_text.new.out)) (g.K.Sink.written c.args.out.now) (g.K.Sink.written c.print_text.new.out)) same c.print_text.ensures)
+    (inl refl)

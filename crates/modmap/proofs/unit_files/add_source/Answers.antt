@@ -11,4 +11,4 @@ returns-clause-file g c =
 pub returns-clause-fit : goal.returns-clause-fit
 returns-clause-fit g c =
     subst (λ all. Fit c.args.project.now (suc c.args.unit) all c.args.gathered.now.built) (sym c.in_ok-push.ensures.ok)
-    (fit_source c.args.project.now c.args.unit c.args.gathered.now.sources c.args.gathered.now.built c.in-Ok.text c.requires.unit c.requires.source c.requires.fit)
+    (fit_source c.args.project.now c.args.unit c.args.gathered.now.sources c.args.gathered.now.built c.in-Ok.text c.requires.unit c.requires.source c.in-Ok.ensures.bound c.requires.fit)

@@ -1,6 +1,7 @@
 use Rattle.std.proofs.Common.{subst}
 use Rattle.std.specs.Prelude.{Option}
-use Rattle.export_lists.specs.Drafts.{Row, HasWords}
+use Rattle.export_lists.specs.Drafts.{HasWords}
+use Rattle.export_lists.specs.Words.{Row}
 use Rattle.export_lists.proofs.CmiWords.{line_taken}
 use Rattle.export_lists.proofs.draft.Draft.with_line.Goals as goal
 

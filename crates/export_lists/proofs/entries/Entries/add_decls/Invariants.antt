@@ -4,4 +4,4 @@ use Rattle.export_lists.specs.Lists.{own_entries}
 use Rattle.export_lists.proofs.entries.Entries.add_decls.Given as goal
 
 abbrev pub invariant-loop-decl : goal.invariant-loop-decl
-invariant-loop-decl l = l.entries ≡ with_entries l.fn.self (own_entries l.all l.owner (take l.decl-index l.decls))
+invariant-loop-decl l = l.entries ≡ with_entries l.fn.self (own_entries l.own l.owner (take l.decl-index l.decls))

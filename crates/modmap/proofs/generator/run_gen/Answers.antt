@@ -1,0 +1,17 @@
+use Rattle.std.proofs.Common.{refl, subst}
+use Rattle.mm_outside.specs.Told.{Told}
+use Rattle.modmap.specs.Endings.{WriteFailed}
+use Rattle.modmap.specs.Generating.{StopsWithin, files_of, write_stopped}
+use Rattle.modmap.proofs.generator.run_gen.Goals as goal
+
+pub returns-in_default-write_files-clause-run : goal.returns-in_default-write_files-clause-run
+returns-in_default-write_files-clause-run g c =
+    record {
+      ending = WriteFailed;
+      status_is = refl;
+      spoken = c.print_text.ensures;
+      cause = tt;
+      so = write_stopped
+          (subst (λ made. Told (StopsWithin (files_of c.args.folder.now made)) (g.F.Files.content c.args.files.now) (g.F.Files.content c.write_files.new.files)) c.in-Ok-generate.ensures c.in_default-write_files.ensures.content)
+          c.in_default-write_files.ensures.cause.failed refl;
+    }
