@@ -11,7 +11,7 @@ use Rattle.cody_words.specs.Spelling.{Item, plain, two_digits, escaped_newline, 
 use Rattle.cody_words.specs.Lines.{Words, IsApart, Marked, HasBody, WordFirst, SaysWords, Says, longest_line}
 use Rattle.cody_words.specs.Scan.{Scan, step}
 use Rattle.cody_words.specs.Canonical.{is_bare_letter, is_bare, quoted_octet, quote, spaced, mark, canonical_text, canonical_line}
-use Rattle.cody_words.proofs.Told.{white_first}
+use Rattle.cody_words.proofs.Told.{white_first, quote_differs}
 use Rattle.cody_words.proofs.Found.{with_octets, with_octets_last, scan_at, GoesOn, parts_go_on}
 
 -- ---- an octet between quotes is an item
@@ -174,12 +174,9 @@ last_cond : (b : Bool) (xs ys : List ℕ) → (b ≡ true → last_of xs ≡ 59 
 last_cond true xs ys p q = p refl
 last_cond false xs ys p q = q
 
-not_semicolon : (c : ℕ) → c ≡ 39 → c ≡ 59 → ⊥
-not_semicolon c e f = omega arith
-
 -- no canonical spelling ends in a semicolon
 quote_last : (word : List ℕ) → last_of (quote word) ≡ 59 → ⊥
-quote_last word = last_cond (is_bare word) word _ (λ e. last_letter word (and_parts _ _ e).1) (λ f. not_semicolon (last_of (39 ∷ (flat_map quoted_octet word ++ 39 ∷ []))) (last_behind (39 ∷ flat_map quoted_octet word) 39 []) f)
+quote_last word = last_cond (is_bare word) word _ (λ e. last_letter word (and_parts _ _ e).1) (λ f. quote_differs (last_of (39 ∷ (flat_map quoted_octet word ++ 39 ∷ []))) (last_behind (39 ∷ flat_map quoted_octet word) 39 []) f)
 
 spaced_last : (words : List (List ℕ)) → last_of (spaced words) ≡ 59 → ⊥
 spaced_last [] f = omega arith
@@ -273,8 +270,8 @@ clean_letters (c ∷ word) e =
 
 clean_quote : (word : List ℕ) → NoNewline (quote word)
 clean_quote word =
-    let quote_differs = differs 39 39 refl (omega arith) in
-    clean_cond (is_bare word) word _ (λ e. clean_letters word (and_parts _ _ e).1) (λ e. (quote_differs, clean-append (flat_map quoted_octet word) (39 ∷ []) (clean_octets word) (quote_differs, tt)))
+    let no_newline_quote = differs 39 39 refl (omega arith) in
+    clean_cond (is_bare word) word _ (λ e. clean_letters word (and_parts _ _ e).1) (λ e. (no_newline_quote, clean-append (flat_map quoted_octet word) (39 ∷ []) (clean_octets word) (no_newline_quote, tt)))
 
 clean_spaced : (words : List (List ℕ)) → NoNewline (spaced words)
 clean_spaced [] = tt

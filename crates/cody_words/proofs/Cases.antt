@@ -1,6 +1,7 @@
 -- The cases of a step, with what each says of the octet.
 use Rattle.std.proofs.Common.{◌≡◌, ◌≢◌, ℕ, ◌-◌, ◌<◌, ◌≤◌, inl, inr, Bool, true, false, eqb, ltb, leb, ◌&&◌, List, [], ◌∷◌, Option, Some, None, refl, sym, ap, subst, ◌∙◌, arith}
 use Rattle.std.proofs.lemmas.Bool.{cases_Bool, cases_lt, and_parts, leb-true, lt-ltb, le-ltb, agree_below_at, eqb-true, eqb-false, cond-true, cond-false}
+use Rattle.std.proofs.lemmas.Option.{same_Some, none-some}
 use Rattle.std.specs.Option.{is_some, option_map_or}
 use Rattle.std.proofs.lemmas.Bool.Decides.{nat_tests}
 use Rattle.cody_words.specs.declared.reason.Reason.TheVariants.{ControlOctet, BackslashOutside, UnknownEscape}
@@ -12,7 +13,7 @@ use Rattle.cody_words.specs.Scan.{Scan, is_white, is_control, hex_value, letter_
 pub white_is : (c : ℕ) → is_white c ≡ true → IsWhite c
 white_is c e = elim (cases_Bool (eqb c 32)) [ inl y ↦ inl (eqb-true c 32 y) | inr n ↦ inr (grind (arith, nat_tests)) ]
 
-pub not_white : (c : ℕ) → is_white c ≡ false → (c ≢ 32) × (c ≢ 9)
+not_white : (c : ℕ) → is_white c ≡ false → (c ≢ 32) × (c ≢ 9)
 not_white c e = (grind (arith, nat_tests), grind (arith, nat_tests))
 
 pub control_is : (c : ℕ) → is_control c ≡ true → IsControl c
@@ -41,18 +42,6 @@ plain_not_control c (inr e) = rw e refl
 
 -- ---- hexadecimal digits
 
-abbrev some : ℕ → Option ℕ
-some n = Some n
-
-abbrev none : Option ℕ
-none = None
-
-some_same : (m n : ℕ) → some m ≡ some n → m ≡ n
-some_same m n e = cc
-
-none_some : (n : ℕ) → none ≡ some n → ⊥
-none_some n e = cc
-
 option_none : (o : Option ℕ) → ((n : ℕ) → o ≡ Some n → ⊥) → o ≡ None
 option_none None h = refl
 option_none (Some n) h = absurd (h n refl)
@@ -75,7 +64,8 @@ some_is (Some m) n e = ap (λ (k : ℕ). Some k) (eqb-true m n e)
 pub hex_again : (n : ℕ) → n < 16 → hex_value (hex_digit n) ≡ Some n
 hex_again n lt = some_is (hex_value (hex_digit n)) n (agree_below_at gives_back (λ _. true) 16 n refl lt)
 
-none_is : (o : Option ℕ) → is_some o ≡ false → o ≡ None
+-- what isn't there is nothing
+pub none_is : (o : Option ℕ) → is_some o ≡ false → o ≡ None
 none_is None e = refl
 none_is (Some m) e = absurd cc
 
@@ -89,7 +79,7 @@ hex_is c n e =
           let low = and_parts (leb 48 c) (leb c 57) y in
           let a : 48 ≤ c = leb-true 48 c low.0 in
           let b : c ≤ 57 = leb-true c 57 low.1 in
-          let h : n ≡ c - 48 = some_same n (c - 48) (sym e ∙ cond-true _ _ _ y) in
+          let h : n ≡ c - 48 = same_Some n (c - 48) (sym e ∙ cond-true _ _ _ y) in
           let lt : ltb n 10 ≡ true = lt-ltb n 10 (omega arith) in
           (omega arith, rw lt (omega arith))
       | inr nd ↦ elim (cases_Bool (leb 97 c && leb c 102)) [
@@ -97,15 +87,15 @@ hex_is c n e =
             let high = and_parts (leb 97 c) (leb c 102) y in
             let a : 97 ≤ c = leb-true 97 c high.0 in
             let b : c ≤ 102 = leb-true c 102 high.1 in
-            let h : n ≡ c - 87 = some_same n (c - 87) (sym e ∙ cond-false _ _ _ nd ∙ cond-true _ _ _ y) in
+            let h : n ≡ c - 87 = same_Some n (c - 87) (sym e ∙ cond-false _ _ _ nd ∙ cond-true _ _ _ y) in
             let ge : ltb n 10 ≡ false = le-ltb n 10 (omega arith) in
             (omega arith, rw ge (omega arith))
-        | inr nn ↦ absurd (none_some n (sym (cond-false _ _ _ nd ∙ cond-false _ _ _ nn) ∙ e))
+        | inr nn ↦ absurd (none-some n (sym (cond-false _ _ _ nd ∙ cond-false _ _ _ nn) ∙ e))
       ]
     ]
 
 pub hex_none : (c : ℕ) → hex_value c ≡ None → IsHexDigit c → ⊥
-hex_none c e h = none_some h.0 (sym e ∙ ap hex_value h.2 ∙ hex_again h.0 h.1)
+hex_none c e h = none-some h.0 (sym e ∙ ap hex_value h.2 ∙ hex_again h.0 h.1)
 
 pub hex_not : (c : ℕ) → (IsHexDigit c → ⊥) → hex_value c ≡ None
 hex_not c other = option_none (hex_value c) (λ n e. other (n, (hex_is c n e).0, (hex_is c n e).1))

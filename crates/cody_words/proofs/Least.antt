@@ -13,7 +13,7 @@ use Rattle.cody_words.specs.Octets.{IsWhite, IsControl, IsBare, IsPlain, hex_dig
 use Rattle.cody_words.specs.Spelling.{Item, plain, one_digit, two_digits, escaped_newline, escaped_tab, escaped_apostrophe, escaped_backslash, escaped_space, item_raw, items_raw, IsItem, bare, quoted}
 use Rattle.cody_words.specs.Lines.{Meaning, Malformed, IsApart, IsApartBehind, Piece, gap, part, piece_raw, IsPiece, EndsOutside, EndsInside, Offends, IsOffence}
 use Rattle.cody_words.specs.Scan.{Scan, is_white, is_control, hex_value, letter_value, with_octet, with_word, goes, step_outside, step_inside, step_escape, step_digit, step_in, step, start, verdict}
-use Rattle.cody_words.proofs.Cases.{OutsideStep, outside_step, InsideStep, inside_step, EscapeStep, escape_step, white_again, control_again, hex_again, hex_is, bare_not_white}
+use Rattle.cody_words.proofs.Cases.{OutsideStep, outside_step, InsideStep, inside_step, EscapeStep, escape_step, white_again, control_again, hex_again, none_is, bare_not_white}
 use Rattle.cody_words.proofs.Cases as cases
 use Rattle.cody_words.proofs.Found.{scan_at, plain_step, bare_step, digit_step}
 use Rattle.cody_words.proofs.Offences.{at_step}
@@ -65,10 +65,6 @@ cond_is P false s t p q = q
 in_stays : (octets : List ℕ) (words : List (List ℕ)) (at place : ℕ) (reason : Reason) → place < at → InScan (fold step (scan_at words (Refused place reason) at) octets)
 in_stays [] words at place reason lt = lt
 in_stays (c ∷ octets) words at place reason lt = in_stays octets words (at + 1) place reason (omega arith)
-
-out_stays : (octets : List ℕ) (words : List (List ℕ)) (at place : ℕ) (reason : Reason) → place < at → OutScan (fold step (scan_at words (Refused place reason) at) octets)
-out_stays [] words at place reason lt = lt
-out_stays (c ∷ octets) words at place reason lt = out_stays octets words (at + 1) place reason (omega arith)
 
 -- ---- items
 
@@ -265,10 +261,6 @@ escapes_control c = is_control c && (is_some (letter_value c) || is_some (hex_va
 below_128 : (c : ℕ) → IsControl c → c < 128
 below_128 c (inl h) = omega arith
 below_128 c (inr e) = omega arith
-
-none_is : (o : Option ℕ) → is_some o ≡ false → o ≡ None
-none_is None e = refl
-none_is (Some m) e = absurd cc
 
 and_rest : (x y : Bool) → x ≡ true → (x && y) ≡ false → y ≡ false
 and_rest true y e f = f

@@ -11,8 +11,9 @@ use Rattle.cody_words.specs.Octets.{IsWhite, IsPlain, hex_digit}
 use Rattle.cody_words.specs.Spelling.{Item, plain, one_digit, two_digits, escaped_newline, escaped_tab, escaped_apostrophe, escaped_backslash, escaped_space, item_raw, items_raw, IsItem, bare, quoted}
 use Rattle.cody_words.specs.Lines.{Meaning, Malformed, IsApartBehind, Piece, gap, part, piece_raw, IsPiece, EndsOutside, EndsInside, Offends, IsOffence}
 use Rattle.cody_words.specs.Scan.{Scan, is_white, hex_value, letter_value, with_octet, with_word, goes, step_outside, step_between, step_semicolon, step_digit, step_in, step, start, all_words, verdict_in, verdict}
-use Rattle.cody_words.proofs.Cases.{OutsideStep, outside_step, InsideStep, inside_step, EscapeStep, escape_step, hex_is, hex_again, letter_of_digit, white_is, not_white}
+use Rattle.cody_words.proofs.Cases.{OutsideStep, outside_step, InsideStep, inside_step, EscapeStep, escape_step, hex_is, hex_again, white_is}
 use Rattle.cody_words.proofs.Cases as cases
+use Rattle.cody_words.proofs.Told.{head_same}
 
 pub all_push : {X : Type 0} (P : X → Type 0) (xs : List X) (x : X) → AllByRecursion P xs → P x → AllByRecursion P (xs ++ x ∷ [])
 all_push P [] x h p = (p, tt)
@@ -156,11 +157,8 @@ plain_slash : (d : ℕ) → IsPlain d → 92 ≡ d → ⊥
 plain_slash d (inl h) e = h.1 (sym e)
 plain_slash d (inr h) e = absurd (omega arith)
 
-first_same : (a b : ℕ) (xs ys : List ℕ) → a ∷ xs ≡ b ∷ ys → a ≡ b
-first_same a b xs ys e = cc
-
 begins_none : (c : ℕ) (back : List ℕ) → EscapesNothing c → (i : Item) (behind : List ℕ) → IsItem i → 92 ∷ c ∷ back ≡ item_raw i ++ behind → ⊥
-begins_none c back h (plain d) behind one e = plain_slash d one (first_same 92 d (c ∷ back) behind e)
+begins_none c back h (plain d) behind one e = plain_slash d one (head_same 92 d (c ∷ back) behind e)
 begins_none c back h escaped_newline behind one e = not_this c 110 10 back behind h refl e
 begins_none c back h escaped_tab behind one e = not_this c 116 9 back behind h refl e
 begins_none c back h escaped_apostrophe behind one e = not_this c 39 39 back behind h refl e
@@ -170,7 +168,7 @@ begins_none c back h (one_digit m) behind one e = not_digit c m back behind h on
 begins_none c back h (two_digits m n) behind one e = not_digit c m back (hex_digit n ∷ behind) h one.0 e
 
 nothing_follows : (i : Item) (behind : List ℕ) → IsItem i → 92 ∷ [] ≡ item_raw i ++ behind → ⊥
-nothing_follows (plain d) behind one e = plain_slash d one (first_same 92 d [] behind e)
+nothing_follows (plain d) behind one e = plain_slash d one (head_same 92 d [] behind e)
 nothing_follows escaped_newline behind one e = absurd cc
 nothing_follows escaped_tab behind one e = absurd cc
 nothing_follows escaped_apostrophe behind one e = absurd cc
@@ -254,10 +252,11 @@ run_stands (c ∷ rest) scan front len h =
 
 -- ---- what is refused at the end
 
-abbrev malformed : ℕ → Reason → Meaning
+abbrev pub malformed : ℕ → Reason → Meaning
 malformed place reason = Malformed place reason
 
-same_malformed : (j k : ℕ) (q r : Reason) → malformed j q ≡ malformed k r → (j ≡ k) × (q ≡ r)
+-- what is malformed in one way has one place and one reason
+pub same_malformed : (j k : ℕ) (q r : Reason) → malformed j q ≡ malformed k r → (j ≡ k) × (q ≡ r)
 same_malformed j k q r e = (cc, cc)
 
 no_words : (words : List (List ℕ)) (k : ℕ) (r : Reason) → all_words words ≡ malformed k r → ⊥

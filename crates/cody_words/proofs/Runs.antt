@@ -1,7 +1,7 @@
 -- A run of octets within a word.
 use Rattle.std.proofs.Common.{◌≡◌, ℕ, ◌+◌, ◌≤◌, ◌<◌, ◌==◌, zero, suc, Bool, true, false, cond, not, List, [], ◌∷◌, ◌++◌, length, take, drop, refl, sym, ap, subst, ◌∙◌, append_assoc, arith}
 use Rattle.std.specs.List.{fold, position_or_len, AllByRecursion}
-use Rattle.std.proofs.lemmas.Bool.{cond-false, ne_eqb, not-true}
+use Rattle.std.proofs.lemmas.Bool.{cond-false, not-true}
 use Rattle.std.proofs.lemmas.Bool.Decides.{nat_tests}
 use Rattle.std.proofs.lemmas.List.{length-append, length-take, length-drop, append-nil, take-append-drop}
 use Rattle.std.proofs.lemmas.List.Sums.{fold-append, prefix_len-le-length}
@@ -9,16 +9,14 @@ use Rattle.cody_words.specs.declared.mode.Mode.{Mode}
 use Rattle.cody_words.specs.declared.mode.Mode.TheVariants.{Between, Semicolon, Outside, Inside, Escape, Digit, Refused}
 use Rattle.cody_words.specs.Octets.{IsBare, semicolon}
 use Rattle.cody_words.specs.Pieces.{cut, InOrder, BeginsAtZero}
-use Rattle.cody_words.specs.Scan.{Scan, is_special, with_octet, with_word, goes, step_outside, run_len, takes_run, step}
-use Rattle.cody_words.proofs.Cases.{bare_not_white, bare_not_control}
+use Rattle.cody_words.specs.Scan.{Scan, is_special, with_octet, with_word, run_len, takes_run, step}
+use Rattle.cody_words.proofs.Cases.{bare_not_white}
+use Rattle.cody_words.proofs.Found.{bare_step}
 use Rattle.cody_words.proofs.Least.{at_run}
 use Rattle.cody_words.proofs.Cuts.{cut-push, InOrder-more}
 
 pub not_special : (c : ℕ) → is_special c ≡ false → IsBare c
 not_special c e = (grind (arith, nat_tests), grind (arith, nat_tests), grind (arith, nat_tests), grind (arith, nat_tests))
-
-bare_step : (words : List (List ℕ)) (at c : ℕ) → IsBare c → step_outside words at c ≡ goes (with_octet words c) at Outside
-bare_step words at c b = cond-false _ _ _ (bare_not_white c b) ∙ cond-false _ _ _ (ne_eqb c 39 b.2) ∙ cond-false _ _ _ (bare_not_control c b) ∙ cond-false _ _ _ (ne_eqb c 92 b.1)
 
 abbrev pub AreBare : List ℕ → Type 0
 AreBare octets = AllByRecursion (λ c. is_special c ≡ false) octets

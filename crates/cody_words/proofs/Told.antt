@@ -148,7 +148,8 @@ word_begins words rest all h some alone =
 cons_nil : {X : Type 0} (x : X) (xs : List X) → x ∷ xs ≡ [] → ⊥
 cons_nil x xs e = absurd cc
 
-head_same : (a b : ℕ) (xs ys : List ℕ) → a ∷ xs ≡ b ∷ ys → a ≡ b
+-- lists that are the same have the same first octet
+pub head_same : (a b : ℕ) (xs ys : List ℕ) → a ∷ xs ≡ b ∷ ys → a ≡ b
 head_same a b xs ys e = cc
 
 tail_same : (a b : ℕ) (xs ys : List ℕ) → a ∷ xs ≡ b ∷ ys → xs ≡ ys
@@ -236,7 +237,8 @@ letter_begins : (c : ℕ) (words : List (List ℕ)) (rest : List ℕ) (all : Lis
 unfolding outside_letter
 letter_begins c words rest all b ne h = word_begins words (c ∷ rest) all (outside_letter c (with_word words) rest all b h) (λ e. cons_nil (bare c) h.parts e) (λ e. ne (head_same c 59 (flat_map part_raw h.parts) [] e))
 
-quote_differs : (c : ℕ) → c ≡ 39 → c ≡ 59 → ⊥
+-- a quote is no semicolon
+pub quote_differs : (c : ℕ) → c ≡ 39 → c ≡ 59 → ⊥
 quote_differs c e f = omega arith
 
 quote_begins : (words : List (List ℕ)) (rest : List ℕ) (all : List (List ℕ)) → InsideTells (with_word words) rest all → BetweenTells words (39 ∷ rest) all

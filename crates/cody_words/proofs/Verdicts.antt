@@ -10,7 +10,7 @@ use Rattle.cody_words.specs.declared.mode.Mode.{Mode}
 use Rattle.cody_words.specs.declared.mode.Mode.TheVariants.{Between, Semicolon, Outside, Inside, Escape, Digit, Refused}
 use Rattle.cody_words.specs.Lines.{Meaning, Blank, Words, Malformed, Marked, HasBody, IsFirstOffence, BodySays, Says, longest_line}
 use Rattle.cody_words.specs.Scan.{Scan, step, start, all_words, verdict_in, verdict, body_verdict}
-use Rattle.cody_words.proofs.Offences.{refused_is_offence}
+use Rattle.cody_words.proofs.Offences.{malformed, same_malformed, refused_is_offence}
 use Rattle.cody_words.proofs.Found.{says_words_found}
 use Rattle.cody_words.proofs.Least.{Reaches, offence_refused}
 use Rattle.cody_words.proofs.Told.{IsDone, found_says}
@@ -20,12 +20,6 @@ blank = Blank
 
 abbrev worded : List (List ℕ) → Meaning
 worded ws = Words ws
-
-abbrev malformed : ℕ → Reason → Meaning
-malformed place reason = Malformed place reason
-
-malformed_same : (j k : ℕ) (q r : Reason) → malformed j q ≡ malformed k r → (j ≡ k) × (q ≡ r)
-malformed_same j k q r e = (cc, cc)
 
 -- ---- where the verdict names no offence, the scan ended with the words
 
@@ -64,8 +58,8 @@ ends_words (Refused place reason) words all at e = absurd cc
 -- ---- the verdict is said
 
 no_earlier : (place j k : ℕ) (q r why : Reason) → malformed place r ≡ malformed j q → Reaches j q k why → place ≤ k
-no_earlier place j k q r why e (inl lt) = let s = (malformed_same place j r q e).0 in omega arith
-no_earlier place j k q r why e (inr h) = let s = (malformed_same place j r q e).0 in omega (arith, h.0)
+no_earlier place j k q r why e (inl lt) = let s = (same_malformed place j r q e).0 in omega arith
+no_earlier place j k q r why e (inr h) = let s = (same_malformed place j r q e).0 in omega (arith, h.0)
 
 pub verdict_said : (body : List ℕ) (meaning : Meaning) → body_verdict body ≡ meaning → BodySays body meaning
 verdict_said body Blank e =

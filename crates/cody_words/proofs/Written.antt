@@ -1,11 +1,11 @@
 -- How long canonical texts are, and how a line grows by a word.
 use Rattle.std.proofs.Common.{◌≡◌, ℕ, ◌+◌, ◌*◌, ◌<◌, ◌≤◌, zero, suc, Bool, true, false, cond, eqb, ltb, ◌||◌, List, [], ◌∷◌, ◌++◌, length, take, get_or, sym, ap, ◌∙◌, append_assoc, add-one, arith}
-use Rattle.std.specs.Prelude.{slice_get, option_map, Option, Some}
+use Rattle.std.specs.Prelude.{slice_get, option_map, Some}
 use Rattle.std.specs.Borrow.{Bor}
 use Rattle.std.specs.List.{flat_map}
 use Rattle.std.proofs.lemmas.List.{length-append, length-map, length-take}
 use Rattle.std.proofs.lemmas.Bool.{ne_eqb}
-use Rattle.std.proofs.lemmas.Option.{slice_get-map, slice_get-get_or}
+use Rattle.std.proofs.lemmas.Option.{same_Some, slice_get-map, slice_get-get_or}
 use Rattle.cody_words.specs.Buffers.{Buffer, Appends}
 use Rattle.cody_words.specs.Canonical.{quoted_octet, is_bare, quote, spaced, mark, next_word, words_of, word_room, line_room}
 
@@ -37,12 +37,6 @@ line_room_some : (words : List (List ℕ)) → 3 ≤ line_room words
 line_room_some [] = omega arith
 line_room_some (w ∷ words) = omega (arith, line_room_some words)
 
-abbrev some : List ℕ → Option (List ℕ)
-some w = Some w
-
-some_is : (v w : List ℕ) → some v ≡ some w → v ≡ w
-some_is v w e = cc
-
 spaced_two : (w : List ℕ) (words : List (List ℕ)) → length (spaced (w ∷ words)) ≤ length (quote w) + 1 + length (spaced words)
 spaced_two w [] = omega arith
 spaced_two w (v ∷ words) = omega (arith, length-append (quote w) (32 ∷ spaced (v ∷ words)))
@@ -51,7 +45,7 @@ spaced_two w (v ∷ words) = omega (arith, length-append (quote w) (32 ∷ space
 pub room_at : (words : List (List ℕ)) (k : ℕ) (w : List ℕ) → slice_get words k ≡ Some w → length (spaced (take k words)) + 1 + word_room w + 3 ≤ line_room words
 room_at [] k w e = absurd cc
 room_at (v ∷ words) zero w e =
-    let same : v ≡ w = some_is v w e in
+    let same : v ≡ w = same_Some v w e in
     rw (← same) (omega (arith, line_room_some words))
 room_at (v ∷ words) (suc k) w e = omega (arith, spaced_two v (take k words), length-quote v, room_at words k w e)
 
@@ -62,7 +56,7 @@ room_end (v ∷ words) = omega (arith, spaced_two v words, length-quote v, room_
 -- a line grows by a word
 pub spaced_first : (words : List (List ℕ)) (w : List ℕ) → slice_get words 0 ≡ Some w → spaced (take 1 words) ≡ quote w
 spaced_first [] w e = absurd cc
-spaced_first (v ∷ words) w e = ap quote (some_is v w e)
+spaced_first (v ∷ words) w e = ap quote (same_Some v w e)
 
 pub spaced_more : (words : List (List ℕ)) (k : ℕ) (w : List ℕ) → slice_get words (suc k) ≡ Some w → spaced (take (suc (suc k)) words) ≡ spaced (take (suc k) words) ++ 32 ∷ quote w
 spaced_more [] k w e = absurd cc

@@ -308,11 +308,6 @@ kind_from : (name : List ℕ) (long dotted divided rooted : Bool) → ltb 512 (l
     → name_kind name ≡ kind_by long dotted divided rooted
 kind_from name long dotted divided rooted a b c d = name_kind_by name ∙ rw (a, b, c, d) refl
 
--- what the tests say where they lead to a kind
-abbrev KindSays : List ℕ → Option NameKind → Type 0
-KindSays name None = (kind : NameKind) → IsName kind name → ⊥
-KindSays name (Some kind) = IsName kind name
-
 -- a name has its kind
 pub found_kind : (kind : NameKind) (name : List ℕ) → IsName kind name → name_kind name ≡ Some kind
 found_kind Primary name h =

@@ -5,6 +5,7 @@ use Rattle.std.specs.Char.{is_ascii_digit}
 use Rattle.std.specs.List.{fold, list_all}
 use Rattle.std.proofs.lemmas.Str.Parse.{IsDigitsTest, FoldsDigits, IsNumeralModel, numerals_by_fold, digits_value_short}
 use Rattle.std.proofs.lemmas.Fmt.{digits_decimal, digits_value-decimal, length-decimal-le, decimal_nonempty}
+use Rattle.std.proofs.lemmas.Bool.{and_from}
 use Rattle.std.proofs.lemmas.Bool.Decides.{nat_tests}
 use Rattle.mapper_requests.specs.Numbers.{with_digit, digits_value, IsNumber, greatest_number, number_of}
 
@@ -28,13 +29,10 @@ pub and_second : (a b : Bool) → (a && b) ≡ true → b ≡ true
 and_second true b e = e
 and_second false b e = absurd cc
 
-pub and_both : (a b : Bool) → a ≡ true → b ≡ true → (a && b) ≡ true
-and_both a b p q = rw p q
-
 digits-take : (k : ℕ) (word : List ℕ) → AreDigits word → AreDigits (take k word)
 digits-take zero word e = refl
 digits-take (suc k) [] e = refl
-digits-take (suc k) (c ∷ word) e = and_both (is_ascii_digit c) _ (and_first (is_ascii_digit c) (list_all is_ascii_digit word) e) (digits-take k word (and_second (is_ascii_digit c) (list_all is_ascii_digit word) e))
+digits-take (suc k) (c ∷ word) e = and_from (is_ascii_digit c) _ (and_first (is_ascii_digit c) (list_all is_ascii_digit word) e) (digits-take k word (and_second (is_ascii_digit c) (list_all is_ascii_digit word) e))
 
 -- ten digits, and the front of them, are small
 pub value_small : (word : List ℕ) → length word ≤ 10 → AreDigits word → digits_value word < 10 ^ 10

@@ -2,7 +2,7 @@
 use Rattle.std.proofs.Common.{◌≡◌, ◌≢◌, ℕ, ◌+◌, ◌%◌, ◌<◌, ◌^◌, Bool, true, not, List, [], ◌∷◌, ◌++◌, length, refl, sym, ap, ◌∙◌, append_assoc, append-nil, arith}
 use Rattle.std.specs.Prelude.{codes, decimal, ◌==◌}
 use Rattle.std.specs.List.{list_all}
-use Rattle.std.proofs.lemmas.Bool.{ne_eqb}
+use Rattle.std.proofs.lemmas.Bool.{ne_eqb, and_from}
 use Rattle.std.proofs.lemmas.Bool.Decides.{nat_tests}
 use Rattle.std.proofs.lemmas.Fmt.{decimal_by_steps, decimal_nonempty}
 use Rattle.cody_words.specs.Octets.{space}
@@ -11,11 +11,11 @@ use Rattle.mapper_requests.specs.Writing.{given_text, given_flags}
 use Rattle.mapper_requests.specs.declared.verb.Verb.{Verb}
 use Rattle.mapper_requests.specs.declared.verb.Verb.TheVariants as verb
 use Rattle.mapper_requests.specs.Working.{behind, row_of}
-use Rattle.mapper_requests.proofs.Digits.{and_first, and_second, and_both}
+use Rattle.mapper_requests.proofs.Digits.{and_first, and_second}
 
 list_all-append : (p : ℕ → Bool) (xs ys : List ℕ) → list_all p xs ≡ true → list_all p ys ≡ true → list_all p (xs ++ ys) ≡ true
 list_all-append p [] ys f g = g
-list_all-append p (x ∷ xs) ys f g = and_both (p x) _ (and_first (p x) (list_all p xs) f) (list_all-append p xs ys (and_second (p x) (list_all p xs) f) g)
+list_all-append p (x ∷ xs) ys f g = and_from (p x) _ (and_first (p x) (list_all p xs) f) (list_all-append p xs ys (and_second (p x) (list_all p xs) f) g)
 
 digit_bare : (n : ℕ) → n < 10 → list_all is_bare_letter ((48 + n) ∷ []) ≡ true
 unfolding is_bare_letter

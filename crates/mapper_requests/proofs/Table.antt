@@ -94,10 +94,6 @@ numbers_small words =
     let P = λ (asked : Asked). HasNumbers asked in
     by_table P (λ why. tt) words (hello_form P words (λ n s. s), (tt, (named_form P Export words (λ n s. s), (named_form P Import words (λ n s. s), (named_form P Compiled words (λ n s. s), (named_form P Translate words (λ n s. s), tt))))))
 
-room_some : (words : List (List ℕ)) → 3 ≤ line_room words
-room_some [] = omega arith
-room_some (word ∷ words) = omega (arith, room_some words)
-
 one_text : (words : List (List ℕ)) (k : ℕ) → 3 * length (word_at words k) ≤ line_room words
 one_text [] k = omega arith
 one_text (word ∷ words) zero = omega arith

@@ -1,6 +1,7 @@
 -- Files whose names and contents stand in one list of octets.
 use Rattle.std.proofs.Common.{◌≡◌, ◌≢◌, ℕ, zero, suc, ◌+◌, ◌≤◌, List, [], ◌∷◌, ◌++◌, length, take, drop, All, Option, Some, None, IfNone, Bool, true, false, Ok, refl, sym, ◌∙◌, ap, subst, arith, if◌then◌else◌, get_or, set, length-drop}
 use Rattle.std.proofs.lemmas.List.{take-append-le, drop-append-le}
+use Rattle.std.proofs.lemmas.Bool.{false_from_ne_true}
 use Rattle.std.proofs.lemmas.Slice.Eq.{bytes_eq-Decides}
 use Rattle.std.specs.Str.{bytes_eq}
 use Rattle.mm_outside.specs.Files.{Stores}
@@ -12,12 +13,8 @@ use Rattle.mm_outside.specs.declared.mem_files.Slot.{Slot}
 bytes-same : (xs ys : List ℕ) → xs ≡ ys → bytes_eq xs ys ≡ true
 bytes-same xs ys e = (bytes_eq-Decides xs ys).1 e
 
-not-true : (t : Bool) → (t ≡ true → ⊥) → t ≡ false
-not-true true never = absurd (never refl)
-not-true false never = refl
-
 bytes-other : (xs ys : List ℕ) → xs ≢ ys → bytes_eq xs ys ≡ false
-bytes-other xs ys ne = not-true (bytes_eq xs ys) (λ e. ne ((bytes_eq-Decides xs ys).0 e))
+bytes-other xs ys ne = false_from_ne_true (bytes_eq xs ys) (λ e. ne ((bytes_eq-Decides xs ys).0 e))
 
 pub text-grown : (octets more : List ℕ) (span : Span) → span.start + span.len ≤ length octets → text_at (octets ++ more) span ≡ text_at octets span
 text-grown octets more span within =

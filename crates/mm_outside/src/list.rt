@@ -1,4 +1,5 @@
-// A vector that contracts see as a list.
+//! A vector that contracts see as a list.
+
 ghost use Rattle.std.specs.Prelude.{◌≡◌, ◌↔◌, ◌<◌, ◌≤◌, ◌++◌, [], ◌∷◌, length, vec_len, slice_get, OnOk, OnErr, IsTrue};
 
 use crate::Memory;

@@ -15,23 +15,29 @@ use std::alloc::Global;
 /// Where a text stands.
 #[derive(Clone, Copy)]
 pub struct Span {
+    /// How many octets stand before it.
     pub start: usize,
+    /// How many octets it has.
     pub len: usize,
 }
 
 /// Where a file's name and content stand.
 #[derive(Clone, Copy)]
 pub struct Slot {
+    /// Where the name stands.
     pub name: Span,
+    /// Where the content stands.
     pub content: Span,
 }
 
-fn same(a: &[u8], b: &[u8]) -> bool
-    ensures { IsTrue result ↔ (a.now ≡ b.now) }
+/// Whether the octets are the same.
+fn is_same(name: &[u8], other: &[u8]) -> bool
+    ensures { IsTrue result ↔ (name.now ≡ other.now) }
 {
-    a == b
+    name == other
 }
 
+/// The octets that stand there.
 fn text<'a>(octets: &'a [u8], span: &Span) -> &'a [u8]
     requires { span.now.start + span.now.len ≤ length octets.now }
     ensures { result.now ≡ text_at octets.now span.now }
@@ -41,21 +47,21 @@ fn text<'a>(octets: &'a [u8], span: &Span) -> &'a [u8]
     front
 }
 
-// The first slot of the name.
+/// The first slot of the name.
 fn find(octets: &[u8], slots: &[Slot], name: &[u8]) -> Option<usize>
     requires { All (IsWithin (length octets.now)) slots.now }
     ensures none { IfNone result (All (λ slot. text_at octets.now slot.name ≢ name.now) slots.now) }
     ensures found { IfSome result (IsFirst octets.now slots.now name.now) }
 {
     for (k, slot) in slots.iter().enumerate() {
-        if same(text(octets, &slot.name), name) {
+        if is_same(text(octets, &slot.name), name) {
             return Some(k);
         }
     }
     None
 }
 
-// Appends the octets.
+/// Appends the octets.
 fn put(page: &mut Page, octets: &[u8]) -> Span
     requires { length octets.now ≤ page.old.spare }
     ensures page { page.new.octets ≡ page.old.octets ++ octets.now }
@@ -71,7 +77,7 @@ fn put(page: &mut Page, octets: &[u8]) -> Span
     }
 }
 
-// The octets of the texts, and so many more.
+/// The octets of the texts, and so many more.
 fn total(texts: &[Text], more: usize) -> Option<usize>
     ensures { IfSome result (λ sum. sum ≡ more + sum_by length texts.now) }
 {

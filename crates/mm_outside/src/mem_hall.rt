@@ -68,7 +68,7 @@ fn turn_round(links: &mut Vec<MemLink>)
     links.reverse();
 }
 
-// Takes the last link.
+/// Takes the last link.
 fn take_next(links: &mut Vec<MemLink>) -> Option<MemLink>
     requires { All (λ link. IsFresh (octets_of link)) links.old.items }
     ensures links { MatchOption result (links.old.items ≡ [])

@@ -123,7 +123,7 @@ fn pad_links(alloc: Global, links: &mut Vec<MemLink>, room: usize) -> Result<(),
     Ok(())
 }
 
-// Takes the first halls.
+/// Takes the first halls.
 fn take_halls(halls: &mut Vec<MemHall>, count: usize) -> Result<Vec<MemHall>, Memory>
     requires count { count ≤ vec_len halls.old }
     requires unused { All IsUnused halls.old.items }
@@ -139,7 +139,7 @@ fn take_halls(halls: &mut Vec<MemHall>, count: usize) -> Result<Vec<MemHall>, Me
     Ok(mem::replace(halls, rest))
 }
 
-// Takes the first link.
+/// Takes the first link.
 fn take_link(links: &mut Vec<MemLink>) -> MemLink
     requires some { 0 < vec_len links.old }
     requires fresh { All (λ link. IsFresh (octets_of link)) links.old.items }

@@ -1,10 +1,13 @@
-// Octets that are appended, in room that is taken beforehand.
+//! Octets that are appended, in room that is taken beforehand.
+
 ghost use Rattle.std.specs.Prelude.{◌≡◌, ◌+◌, ◌-◌, ◌≤◌, ◌++◌, [], length, take, IfOk};
 
 use crate::Memory;
 use std::alloc::Global;
 use std::marker::Model;
 
+/// Octets that are appended one piece behind the other, in room that is taken when it is made. Contracts see the
+/// octets so far, and how many more there is room for.
 #[derive(Drop)]
 pub struct Page {
     octets: Vec<u8>,
@@ -23,6 +26,7 @@ impl Model for Page {
 }
 
 impl Page {
+    /// No octets, and room for so many.
     pub fn new(alloc: Global, room: usize) -> Result<Page, Memory>
         ensures { IfOk result (λ page. page ≡ record { octets = []; spare = room }) }
     {
@@ -30,12 +34,14 @@ impl Page {
         Ok(Page { octets, filled: 0 })
     }
 
+    /// How many more octets there is room for.
     pub fn spare(&self) -> usize
         ensures { result ≡ self.now.spare }
     {
         self.octets.len() - self.filled
     }
 
+    /// Appends the octets, which have to fit.
     pub fn append(&mut self, piece: &[u8])
         requires { length piece.now ≤ self.old.spare }
         ensures { self.new ≡ record {
@@ -47,6 +53,7 @@ impl Page {
         self.filled += piece.len();
     }
 
+    /// The octets so far.
     pub fn octets(&self) -> &[u8]
         ensures { result.now ≡ self.now.octets }
     {

@@ -1,4 +1,5 @@
-// Which calls of one method fail, and in what sizes its octets are cut.
+//! Which calls of one method fail, and in what sizes its octets are cut.
+
 ghost use Rattle.std.specs.Prelude.{◌≡◌, ◌<◌, ◌≤◌, ◌↔◌, All, IsTrue, IsNone, IfSome, IfOk, min, slice_index_or};
 ghost use Rattle.mm_outside.specs.Plan.{planned, IsDue, next_size, called};
 
@@ -6,6 +7,8 @@ use crate::Memory;
 use std::alloc::Global;
 use std::marker::Model;
 
+/// The plan of the calls of one method: the numbers of those that fail, counted from 0, and how many octets each handles
+/// at most. Behind the last size a call handles as many as it may.
 #[derive(Drop)]
 pub struct Script {
     calls: u64,
@@ -25,6 +28,7 @@ impl Model for Script {
 }
 
 impl Script {
+    /// The plan with these sizes, a call each, and these numbers of calls that fail.
     pub fn new(alloc: Global, sizes: &[u32], failing: &[u64]) -> Result<Script, Memory>
         requires { All (λ size. 1 ≤ size) sizes.now }
         ensures { IfOk result (λ script. script ≡ planned sizes.now failing.now) }
@@ -36,14 +40,14 @@ impl Script {
         })
     }
 
-    // Whether the next call is to fail.
+    /// Whether the next call is to fail.
     pub fn is_due(&self) -> bool
         ensures { IsTrue result ↔ IsDue self.now }
     {
         self.failing.contains(&self.calls)
     }
 
-    // How many octets the next call handles.
+    /// How many octets the next call handles, of this many at most.
     pub fn size(&self, most: usize) -> usize
         ensures size { result ≡ next_size self.now most }
         ensures some { 0 < most → 0 < result }
@@ -52,14 +56,14 @@ impl Script {
         cut(&self.sizes, self.calls, most)
     }
 
-    // Counts a call.
+    /// Counts a call.
     pub fn count(&mut self)
         ensures { self.new ≡ called self.old }
     {
         self.calls = self.calls.saturating_add(1);
     }
 
-    // Counts a call, and says how many octets it handles, where it isn't to fail.
+    /// Counts a call, and says how many octets it handles, where it isn't to fail.
     pub fn next(&mut self, most: usize) -> Option<usize>
         ensures fails { IsNone result ↔ IsDue self.old }
         ensures size { IfSome result (λ size. size ≡ next_size self.old most) }

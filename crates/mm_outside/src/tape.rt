@@ -1,10 +1,12 @@
-// Octets that are read from the front.
+//! Octets that are read from the front.
+
 ghost use Rattle.std.specs.Prelude.{◌≡◌, ◌+◌, ◌-◌, ◌<◌, ◌≤◌, ◌++◌, [], length, take, drop, min, IfOk};
 
 use crate::Memory;
 use std::alloc::Global;
 use std::marker::Model;
 
+/// Octets that are read from the front, each once. Contracts see those that were read and those to come.
 #[derive(Drop)]
 pub struct Tape {
     octets: Vec<u8>,
@@ -23,6 +25,7 @@ impl Model for Tape {
 }
 
 impl Tape {
+    /// These octets, of which none was read.
     pub fn new(alloc: Global, octets: &[u8]) -> Result<Tape, Memory>
         ensures { IfOk result (λ tape. tape ≡ record { read = []; to_come = octets.now }) }
     {
@@ -30,8 +33,8 @@ impl Tape {
         Ok(Tape { octets, taken: 0 })
     }
 
-    // Moves at most `size` octets to the front of `room`; none only at the end, or
-    // where `size` is 0.
+    /// Moves at most `size` octets to the front of `room`; none only at the end, or
+    /// where `size` is 0.
     pub fn read(&mut self, size: usize, room: &mut [u8]) -> usize
         requires { size ≤ length room.old }
         ensures count { result ≡ min size (length self.old.to_come) }
@@ -45,7 +48,7 @@ impl Tape {
     }
 }
 
-// Copies what stands behind the first `taken` octets, at most `size` octets.
+/// Copies what stands behind the first `taken` octets, at most `size` octets.
 fn copy(octets: &[u8], taken: usize, size: usize, room: &mut [u8]) -> usize
     requires taken { taken ≤ length octets.now }
     requires size { size ≤ length room.old }

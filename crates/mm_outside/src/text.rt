@@ -1,4 +1,5 @@
-// Octets that contracts see as a list.
+//! Octets that contracts see as a list.
+
 ghost use Rattle.std.specs.Prelude.{◌≡◌, ◌↔◌, ◌++◌, [], IfOk, OnOk, OnErr, IsTrue};
 
 use crate::Memory;

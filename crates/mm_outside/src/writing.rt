@@ -1,4 +1,5 @@
-// Pieces that are written whole.
+//! Pieces that are written whole.
+
 ghost use Rattle.std.specs.Prelude.{◌≡◌};
 ghost use Rattle.mm_outside.specs.Told.{Told};
 ghost use Rattle.mm_outside.specs.Causes.{HasCause};

@@ -1,14 +1,14 @@
 -- The loop that cuts a text: what it has cut so far, and what one piece more adds.
 use Rattle.std.proofs.Common.{◌≡◌, ℕ, ◌+◌, ◌<◌, ◌≤◌, List, [], ◌∷◌, ◌++◌, length, take, drop, sym, ap, ◌∙◌, refl, arith, add-zero, zero-add, add_assoc, cond, Option, Some, None, append_assoc, length-append, take-append-drop, count_by}
 use Rattle.std.specs.Prelude.{IsTrue}
-use Rattle.std.proofs.lemmas.List.{drop-drop, drop-take, take-take, length-drop, length-take, drop_all, append-nil}
+use Rattle.std.proofs.lemmas.List.{drop-drop, drop-take, take-take, length-drop, length-take, append-nil}
 use Rattle.std.proofs.lemmas.List.Sums.{sum_by-append, count_by-le-length}
 use Rattle.module_lexer.specs.declared.token.TokenKind.{TokenKind}
 use Rattle.module_lexer.specs.declared.token.Token.{Token}
 use Rattle.module_lexer.specs.declared.reason.SourceReason.{SourceReason}
 use Rattle.module_lexer.specs.Octets.{is_newline}
 use Rattle.module_lexer.specs.Cut.{Piece, spelling, fits, joined, Fit}
-use Rattle.module_lexer.specs.Tokens.{line_of, token_kind, tokens_at, tokens_from, HasTokens}
+use Rattle.module_lexer.specs.Tokens.{line_of, token_kind, tokens_at, tokens_from}
 use Rattle.module_lexer.specs.Faults.{Breaks, HasLexFault}
 use Rattle.module_lexer.specs.Fronts.{IsFront}
 
@@ -46,10 +46,6 @@ pub record CutBefore (text : List ℕ) (tokens : List Token) (place line : ℕ) 
   pub low : line ≤ place + 1
   pub within : place ≤ length text
 
--- at the front nothing is cut
-pub nothing_cut : (text : List ℕ) → CutBefore text [] 0 1
-nothing_cut text = record { pieces = []; cut = refl; place_is = refl; fit = tt; are = refl; line_is = refl; few = omega arith; low = omega arith; within = omega arith }
-
 -- a piece has no more tokens than octets
 tokens_at_few : (kind : Option TokenKind) (place len line : ℕ) → 0 < len → length (tokens_at kind place len line) ≤ len
 tokens_at_few None place len line positive = omega arith
@@ -85,12 +81,6 @@ piece_cut {text} {tokens} {place} {line} {len} {kind} more before front more_is 
       low = omega (arith, before.low, newlines);
       within = within;
     }
-
--- where nothing is left the text is cut whole
-pub whole_cut : {text : List ℕ} {tokens : List Token} {place line : ℕ} → CutBefore text tokens place line → length text ≤ place → HasTokens text tokens
-whole_cut {text} {tokens} {place} {line} before all =
-    let none : drop place text ≡ [] = drop_all place text all in
-    record { pieces = before.pieces; whole = before.cut ∙ rw (none, append-nil) refl; fit = rw none at before.fit; are = before.are }
 
 -- where what is left begins with no piece the cut ends
 pub fault_cut : {text : List ℕ} {tokens : List Token} {place line : ℕ} {reason : SourceReason} (ahead : ℕ) → CutBefore text tokens place line → Breaks reason ahead (drop place text)

@@ -7,7 +7,7 @@ use Rattle.std.proofs.lemmas.List.{append_assoc, drop_more, take_all}
 use Rattle.std.proofs.lemmas.Bool.{not_from_false, ne_eqb}
 use Rattle.module_lexer.specs.declared.token.TokenKind.{TokenKind}
 use Rattle.module_lexer.specs.declared.token.TokenKind.TheVariants.{Identifier, Reserved, Punctuator, Quoted}
-use Rattle.module_lexer.specs.declared.reason.SourceReason.TheVariants.{OctetOutside, UnclosedComment, UnclosedString, IdentifierTooLong}
+use Rattle.module_lexer.specs.declared.reason.SourceReason.TheVariants.{OctetOutside, UnclosedString, IdentifierTooLong}
 use Rattle.module_lexer.specs.Octets.{is_white, is_letter, is_letter_or_digit, is_punctuator, is_string_octet, is_reserved}
 use Rattle.module_lexer.specs.Cut.{WhiteSpace, LineComment, BlockComment, Word, Mark, Literal, is_in_line, ends_run, has_close, is_word}
 use Rattle.module_lexer.specs.Faults.{Breaks}
@@ -144,13 +144,6 @@ block_comment_is_front (a ∷ b ∷ bs) tail n len one two some tail_is within n
       kind_is = refl;
       positive = omega arith;
     }
-
--- without a close it is an unclosed comment
-pub unclosed_comment : (rest tail : List ℕ) → get_or rest 0 0 ≡ 47 → get_or rest 1 0 ≡ 42 → 1 < length rest → tail ≡ drop 2 rest → has_close tail ≡ false → Breaks UnclosedComment 0 rest
-unclosed_comment [] tail one two some tail_is none = absurd (omega arith)
-unclosed_comment (a ∷ []) tail one two some tail_is none = absurd (omega arith)
-unclosed_comment (a ∷ b ∷ bs) tail one two some tail_is none =
-    record { body = bs; begins = rw (one, two) refl; unclosed = not_from_false _ (rw tail_is at none); there = refl }
 
 -- a slash with neither a slash nor a star behind it begins nothing
 pub slash_breaks : (rest : List ℕ) → get_or rest 0 0 ≡ 47 → 0 < length rest → (1 < length rest → (get_or rest 1 0 ≡ 47 → ⊥) × (get_or rest 1 0 ≡ 42 → ⊥)) → Breaks OctetOutside 0 rest

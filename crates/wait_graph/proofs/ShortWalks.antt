@@ -1,7 +1,6 @@
 -- Short walks: where a walk leads, one with at most as many pairs as there are does, and `leads` finds those.
-use Rattle.std.proofs.Common.{◌≡◌, ◌≢◌, ℕ, zero, suc, ◌<◌, ◌≤◌, Bool, true, false, not, ◌==◌, ◌⊎◌, inl, inr, List, [], ◌∷◌, length, filter, Contains, refl, sym, subst, arith, eq-eqb, eqb-true, ne_eqb, true≢false}
-use Rattle.std.proofs.lemmas.Bool.{or_cases, or_left, or_right, cases_eq, not_from_true, not_from_false, false_from_ne_true}
-use Rattle.std.specs.Prelude.{◌↔◌, IsTrue}
+use Rattle.std.proofs.Common.{◌≡◌, ◌≢◌, ℕ, zero, suc, ◌<◌, ◌≤◌, true, not, ◌==◌, ◌⊎◌, inl, inr, List, [], ◌∷◌, length, filter, Contains, refl, subst, arith, eq-eqb, eqb-true, ne_eqb}
+use Rattle.std.proofs.lemmas.Bool.{or_cases, or_left, or_right, cases_eq, not_from_true, not_from_false}
 use Rattle.wait_graph.specs.Walks.{IsWalk, Leads, leads_within, leads}
 use Rattle.wait_graph.proofs.Members.{Contains-filter, Contains-filter_from, length-filter_lt, any_to, any_from}
 use Rattle.wait_graph.proofs.WalkLaws.{Pairs, AreAmong, AreAmong-filter, IsWalk-more, Leads-step}
@@ -95,9 +94,3 @@ pub leads-from : (pairs : Pairs) (from to : ℕ) → Leads pairs from to → lea
 leads-from pairs from to walk =
     let s = short (length pairs) pairs from to (omega arith) walk in
     finds pairs to (length pairs) s.0 from s.1 s.2
-
--- an answer that tells whether a walk leads there is what `leads` computes
-pub leads-same : (pairs : Pairs) (from to : ℕ) (answer : Bool) → IsTrue answer ↔ Leads pairs from to → answer ≡ leads pairs from to
-leads-same pairs from to true tells = sym (leads-from pairs from to (tells.0 refl))
-leads-same pairs from to false tells =
-    sym (false_from_ne_true (leads pairs from to) (λ h. true≢false (sym (tells.1 (leads-true pairs from to h)))))

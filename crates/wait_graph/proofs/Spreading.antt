@@ -15,15 +15,6 @@ pub record Spreads (pairs : Pairs) (old now : List Bool) (made : Bool) (i : ℕ)
   pub grown : mark_count old ≤ mark_count now
   pub more : made ≡ true → mark_count old < mark_count now
 
-pub Spreads-start : (pairs : Pairs) (marks : List Bool) → Spreads pairs marks marks false 0
-Spreads-start pairs marks = record {
-  kept = λ unit h. h;
-  led = λ from h. h;
-  closed = λ e j d l. absurd (omega arith);
-  grown = omega arith;
-  more = λ e. absurd (true≢false (sym e));
-}
-
 one_more : (s : ℕ) → 1 + s ≡ suc (0 + s)
 one_more s = omega arith
 
