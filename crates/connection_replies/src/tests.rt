@@ -10,6 +10,49 @@ use unit_registry::Project;
 const PROJECT: &[u8] =
     b"modmap-project 1\nrepo gcm.cache\nmodule a a.cc\nheader ./x/../y.h y.h\nplain main.cc\nend\n";
 
+/// How lines are answered, and the lines in which they are.
+const LINES: [(LineReply, bool, &[u8]); 8] = [
+    (
+        LineReply::Answer(Answer::Hello),
+        true,
+        b"HELLO 1 modmap ;\n",
+    ),
+    (
+        LineReply::Answer(Answer::Repo),
+        false,
+        b"PATHNAME gcm.cache\n",
+    ),
+    (
+        LineReply::Answer(Answer::Path(0)),
+        false,
+        b"PATHNAME a.gcm\n",
+    ),
+    (
+        LineReply::Answer(Answer::Path(1)),
+        true,
+        b"PATHNAME ',/x/,,/y.h.gcm' ;\n",
+    ),
+    (LineReply::Answer(Answer::Bool(true)), false, b"BOOL TRUE\n"),
+    (
+        LineReply::Answer(Answer::Refused(Refusal::ImportCycle)),
+        false,
+        b"ERROR 'import cycle'\n",
+    ),
+    (
+        LineReply::Malformed {
+            number: 2,
+            reason: Reason::UnclosedQuote,
+        },
+        true,
+        b"ERROR 'line 2: unclosed quote' ;\n",
+    ),
+    (
+        LineReply::Refused { first: 2 },
+        false,
+        b"ERROR 'batch refused: line 2'\n",
+    ),
+];
+
 fn project_of(alloc: Global) -> Option<Project> {
     Project::read(alloc, PROJECT).ok()
 }
@@ -29,50 +72,9 @@ fn writes(
 
 #[test]
 fn lines(rt: HostRuntime) -> Result<(), Fail> {
-    let table: [(LineReply, bool, &[u8]); 8] = [
-        (
-            LineReply::Answer(Answer::Hello),
-            true,
-            b"HELLO 1 modmap ;\n",
-        ),
-        (
-            LineReply::Answer(Answer::Repo),
-            false,
-            b"PATHNAME gcm.cache\n",
-        ),
-        (
-            LineReply::Answer(Answer::Path(0)),
-            false,
-            b"PATHNAME a.gcm\n",
-        ),
-        (
-            LineReply::Answer(Answer::Path(1)),
-            true,
-            b"PATHNAME ',/x/,,/y.h.gcm' ;\n",
-        ),
-        (LineReply::Answer(Answer::Bool(true)), false, b"BOOL TRUE\n"),
-        (
-            LineReply::Answer(Answer::Refused(Refusal::ImportCycle)),
-            false,
-            b"ERROR 'import cycle'\n",
-        ),
-        (
-            LineReply::Malformed {
-                number: 2,
-                reason: Reason::UnclosedQuote,
-            },
-            true,
-            b"ERROR 'line 2: unclosed quote' ;\n",
-        ),
-        (
-            LineReply::Refused { first: 2 },
-            false,
-            b"ERROR 'batch refused: line 2'\n",
-        ),
-    ];
     let project = project_of(rt.alloc()).ok_or("memory")?;
     let mut buffer = ReplyBuf::new(rt.alloc()).ok().ok_or("memory")?;
-    for (reply, more, text) in table {
+    for (reply, more, text) in LINES {
         assert!(rt;
             writes(&mut buffer, &project, reply, more, text),
             "{text:?}"
