@@ -4,11 +4,13 @@ use Rattle.mm_outside.specs.declared.errors.Failed.{Failed}
 use Rattle.mm_outside.specs.Octets.{Octets}
 use Rattle.mm_outside.specs.Sending.{Sends}
 use Rattle.mm_outside.specs.Told.{Told}
+use Rattle.cody_words.specs.Buffers.{Buffer}
 use Rattle.cody_batches.specs.Blocks.{most_lines}
 use Rattle.unit_registry.specs.declared.act.Act.{Act as Acts}
 use Rattle.unit_registry.specs.Projects.{ProjectView}
 use Rattle.registry_core.specs.Ledgers.{LedgerView, reply_at}
 use Rattle.registry_core.specs.Desks.{DeskState}
+use Rattle.connection_replies.specs.Rooms.{HoldsLines}
 use Rattle.connection_core.specs.declared.asked.Asked.{Asked}
 use Rattle.connection_core.specs.declared.block_reader.Stage.{Stage}
 use Rattle.connection_core.specs.declared.block_reader.Stage.TheVariants as stage
@@ -122,8 +124,10 @@ AsManyPlaces stage.Waiting lines places = is_refused lines ≡ false → length 
 AsManyPlaces stage.Reading lines places = Unit {0}
 AsManyPlaces (stage.Ended how) lines places = Unit {0}
 
--- there is room for the places and the replies of the longest block, and each line that waits has its place
-pub record IsPrepared (at : Stage) (lines : List Asked) (places : List ℕ) (place_room reply_room : ℕ) : Type 0 where
+-- there is room for the places, the replies and the reply lines of the longest block, and each line that waits has its
+-- place
+pub record IsPrepared (at : Stage) (lines : List Asked) (places : List ℕ) (place_room reply_room : ℕ) (reply_lines : Buffer) : Type 0 where
   pub place_room_is : most_lines ≤ place_room
   pub reply_room_is : most_lines ≤ reply_room
+  pub line_room_is : HoldsLines most_lines reply_lines
   pub as_many : AsManyPlaces at lines places

@@ -50,7 +50,7 @@ impl<I> Model for Session<I> {
     ghost view = { λ s. record { reader = s.reader; conn = s.conn; stash = s.stash; places = s.places.items } };
 
     ghost invariant = { λ s. IsPrepared s.reader.stage s.reader.asked s.places.items
-        (vec_capacity s.places) (vec_capacity s.replies) };
+        (vec_capacity s.places) (vec_capacity s.replies) s.lines };
 }
 
 impl<I> Session<I> {
@@ -69,7 +69,7 @@ impl<I> Session<I> {
         let reader = BlockReader::new(alloc)?;
         let places = Vec::with_capacity(alloc, MOST_LINES as usize)?;
         let replies = Vec::with_capacity(alloc, MOST_LINES as usize)?;
-        let lines = ReplyBuf::new(alloc)?;
+        let lines = ReplyBuf::new(alloc, MOST_LINES)?;
         Ok(Session {
             reader,
             conn: 0,
@@ -167,8 +167,8 @@ impl<I> Session<I> {
         }
     }
 
-    /// Writes the replies of the block that waits for them, by way of a buffer of lines, or answers the place of
-    /// a request that has no reply yet; then nothing is written. Where no block waits nothing is written.
+    /// Writes the replies of the block that waits for them, in one piece, or answers the place of a request that has no
+    /// reply yet; then nothing is written. Where no block waits nothing is written.
     ///
     /// # Ends
     ///
