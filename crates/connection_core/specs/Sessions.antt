@@ -25,7 +25,7 @@ use Rattle.connection_core.specs.Asking.{Block, entered_by, is_refused, stored_f
 use Rattle.connection_core.specs.Answers.{block_answer}
 use Rattle.connection_core.specs.Standing.{ReaderState, ReaderStands, end_in}
 use Rattle.connection_core.specs.Taking.{EndsBlock, IsLimit}
-use Rattle.connection_core.specs.Entering.{Enters, EntersPart, unit_kept, unit_behind}
+use Rattle.connection_core.specs.Entering.{Enters, EntersPart, unit_kept, stash_behind}
 
 -- What a session keeps: the reader of its octets, its connection, the item that is kept for a report, and the places of
 -- the requests of the block that ended last.
@@ -70,7 +70,7 @@ module _ {Item : Type 0} where
   abbrev pub EntersTook : {Held : Type 0} → Took → SessionState Item → SessionState Item → DeskState Held → DeskState Held → Type 0
   EntersTook took.All old new before after = after ≡ before
   EntersTook (took.Block used) old new before after =
-      Enters old.conn (acts_due old new) new.places before after × (unit_kept new.stash ≡ unit_behind (unit_kept old.stash) (entered_by (lines_of new)))
+      Enters old.conn (acts_due old new) new.places before after × (new.stash ≡ stash_behind old.stash (entered_by (lines_of new)))
   EntersTook (took.Ended (HistoryFull entries kept)) old new before after =
       EntersPart old.conn (acts_due old new) (record { entries = entries; reserved = kept }) before after
   EntersTook (took.Ended how) old new before after = after ≡ before
