@@ -340,7 +340,7 @@ module _ {Item Held : Type 0} (conn : ℕ) (asked : List Asked) (k : ℕ) (kept 
 refused_enters : (lines : List Asked) → is_refused lines ≡ true → entered_by lines ≡ []
 refused_enters lines e = ap (λ b. cond b [] (requests_of lines ++ act.Pause ∷ [])) e
 
-good_enters : (lines : List Asked) → is_refused lines ≡ false → entered_by lines ≡ requests_of lines ++ act.Pause ∷ []
+pub good_enters : (lines : List Asked) → is_refused lines ≡ false → entered_by lines ≡ requests_of lines ++ act.Pause ∷ []
 good_enters lines e = ap (λ b. cond b [] (requests_of lines ++ act.Pause ∷ [])) e
 
 with_pause : (unit : ℕ) (asked : List Acts) → with_item unit (asked ++ act.Pause ∷ []) ≡ with_item unit asked ++ act.Pause ∷ []
@@ -364,10 +364,6 @@ behind_pause : {Item : Type 0} (stash : Option (Stash Item)) (asked : List Acts)
 behind_pause None asked = refl
 behind_pause (Some kept) asked = ap (λ b. cond b None (Some kept)) (no_report kept.unit asked)
 
--- what a good block enters, with the kept item
-good_stored : (kept : Option ℕ) (lines : List Asked) → is_refused lines ≡ false → stored_for kept (entered_by lines) ≡ stored_for kept (requests_of lines) ++ act.Pause ∷ []
-good_stored kept lines e = ap (stored_for kept) (good_enters lines e) ∙ stored_pause kept (requests_of lines)
-
 pub refused_so : {Held : Type 0} (conn : ℕ) (kept : Option ℕ) (lines : List Asked) (desk : DeskState Held) (old : List ℕ) → is_refused lines ≡ true
     → (requested : List ℕ) × Enters conn (stored_for kept (entered_by lines)) requested desk desk × (old ≡ old ++ requested)
 refused_so {Held} conn kept lines desk old e =
@@ -379,22 +375,22 @@ refused_left stash lines e = sym (ap (stash_behind stash) (refused_enters lines 
 pub good_left : {Item : Type 0} (stash : Option (Stash Item)) (lines : List Asked) → is_refused lines ≡ false → stash_behind stash (requests_of lines) ≡ stash_behind stash (entered_by lines)
 good_left stash lines e = sym (ap (stash_behind stash) (good_enters lines e) ∙ behind_pause stash (requests_of lines))
 
-module _ {Held : Type 0} (conn : ℕ) (kept : Option ℕ) (lines : List Asked) (first before after : DeskState Held) (good : is_refused lines ≡ false) where
+module _ {Held : Type 0} (conn : ℕ) (kept : Option ℕ) (lines : List Asked) (first before after : DeskState Held) where
   -- all was entered, and the Pause
-  pub block_paused : (requested : List ℕ) (place : ℕ) → Enters conn (stored_for kept (requests_of lines)) requested first before → IsServing conn before → IsSound after
-      → Adds before (entry conn act.Pause) place after → Enters conn (stored_for kept (entered_by lines)) requested first after
-  block_paused requested place h serving sound adds =
-      subst (λ (xs : List Acts). Enters conn xs requested first after) (sym (good_stored kept lines good))
+  paused : (requested : List ℕ) (place : ℕ) → Enters conn (stored_for kept (requests_of lines)) requested first before → IsServing conn before → IsSound after
+      → Adds before (entry conn act.Pause) place after → Enters conn (stored_for kept (requests_of lines ++ act.Pause ∷ [])) requested first after
+  paused requested place h serving sound adds =
+      subst (λ (xs : List Acts). Enters conn xs requested first after) (sym (stored_pause kept (requests_of lines)))
       (subst (λ (ps : List ℕ). Enters conn (stored_for kept (requests_of lines) ++ act.Pause ∷ []) ps first after) (append-nil requested)
       (enters_more conn (stored_for kept (requests_of lines)) requested first before after h act.Pause place refl serving sound adds))
 
   -- all was entered but the Pause
-  pub block_not_paused : (requested : List ℕ) (full : Full) → Enters conn (stored_for kept (requests_of lines)) requested first before → IsServing conn before → IsSound after
-      → Looks before after → IsFull after.seen 0 full → EntersPart conn (stored_for kept (entered_by lines)) full first after
-  block_not_paused requested full h serving sound looks is_full = record {
+  not_paused : (requested : List ℕ) (full : Full) → Enters conn (stored_for kept (requests_of lines)) requested first before → IsServing conn before → IsSound after
+      → Looks before after → IsFull after.seen 0 full → EntersPart conn (stored_for kept (requests_of lines ++ act.Pause ∷ [])) full first after
+  not_paused requested full h serving sound looks is_full = record {
     part = stored_for kept (requests_of lines);
     missing = act.Pause ∷ [];
-    parts = good_stored kept lines good;
+    parts = stored_pause kept (requests_of lines);
     some_missing = λ none. absurd (cc none);
     requested = requested;
     entered = enters_looks conn (stored_for kept (requests_of lines)) requested first before after h serving sound looks;
@@ -402,11 +398,11 @@ module _ {Held : Type 0} (conn : ℕ) (kept : Option ℕ) (lines : List Asked) (
   }
 
   -- only some of the requests were entered
-  pub block_part : (full : Full) → EntersPart conn (stored_for kept (requests_of lines)) full first after → EntersPart conn (stored_for kept (entered_by lines)) full first after
+  pub block_part : (full : Full) → EntersPart conn (stored_for kept (requests_of lines)) full first after → EntersPart conn (stored_for kept (requests_of lines ++ act.Pause ∷ [])) full first after
   block_part full h = record {
     part = h.part;
     missing = h.missing ++ act.Pause ∷ [];
-    parts = good_stored kept lines good ∙ ap (λ (xs : List Acts). xs ++ act.Pause ∷ []) h.parts ∙ append_assoc h.part h.missing (act.Pause ∷ []);
+    parts = stored_pause kept (requests_of lines) ∙ ap (λ (xs : List Acts). xs ++ act.Pause ∷ []) h.parts ∙ append_assoc h.part h.missing (act.Pause ∷ []);
     some_missing = λ none. some h.missing none;
     requested = h.requested;
     entered = h.entered;
@@ -418,16 +414,16 @@ module _ {Held : Type 0} (conn : ℕ) (kept : Option ℕ) (lines : List Asked) (
       some (x ∷ xs) e = absurd (cc e)
 
 -- the Pause was entered, or had no room
-pub block_ends : {Held : Type 0} (result : Result (Unit {0}) Full) (conn : ℕ) (kept : Option ℕ) (lines : List Asked) (requested old new : List ℕ) (first before after : DeskState Held) → is_refused lines ≡ false
+pub block_ends : {Held : Type 0} (result : Result (Unit {0}) Full) (conn : ℕ) (kept : Option ℕ) (lines : List Asked) (requested old new : List ℕ) (first before after : DeskState Held)
     → Enters conn (stored_for kept (requests_of lines)) requested first before → new ≡ old ++ requested → IsServing conn before → IsSound after
     → IfOk result (λ _. (place : ℕ) × Adds before (entry conn act.Pause) place after) → IfErr result (λ full. Looks before after) → IfErr result (λ full. IsFull after.seen 0 full)
-    → ((requested : List ℕ) × EntersSo result conn (stored_for kept (entered_by lines)) requested first after × (new ≡ old ++ requested)) × IsServing conn after
-block_ends (Ok done) conn kept lines requested old new first before after good h places serving sound adds looks full =
-    ((requested, block_paused conn kept lines first before after good requested adds.0 h serving sound adds.1, places), serving_adds conn act.Pause adds.0 before after refl serving sound adds.1)
-block_ends (Err full) conn kept lines requested old new first before after good h places serving sound adds looks is_full =
-    ((requested, block_not_paused conn kept lines first before after good requested full h serving sound looks is_full, places), serving_looks conn before after serving sound looks)
+    → ((requested : List ℕ) × EntersSo result conn (stored_for kept (requests_of lines ++ act.Pause ∷ [])) requested first after × (new ≡ old ++ requested)) × IsServing conn after
+block_ends (Ok done) conn kept lines requested old new first before after h places serving sound adds looks full =
+    ((requested, paused conn kept lines first before after requested adds.0 h serving sound adds.1, places), serving_adds conn act.Pause adds.0 before after refl serving sound adds.1)
+block_ends (Err full) conn kept lines requested old new first before after h places serving sound adds looks is_full =
+    ((requested, not_paused conn kept lines first before after requested full h serving sound looks is_full, places), serving_looks conn before after serving sound looks)
 
-pub ok_left : {Item : Type 0} (result : Result (Unit {0}) Full) (kept left : Option (Stash Item)) (lines : List Asked) → is_refused lines ≡ false → left ≡ stash_behind kept (requests_of lines) → IfOk result (λ _. left ≡ stash_behind kept (entered_by lines))
+pub ok_left : {Item : Type 0} (result : Result (Unit {0}) Full) (kept left : Option (Stash Item)) (lines : List Asked) → is_refused lines ≡ false → IfOk result (λ _. left ≡ stash_behind kept (requests_of lines)) → IfOk result (λ _. left ≡ stash_behind kept (entered_by lines))
 ok_left (Ok done) kept left lines good e = e ∙ good_left kept lines good
 ok_left (Err full) kept left lines good e = tt
 
@@ -464,6 +460,6 @@ good_count [] e = refl
 good_count (Act a ∷ lines) e = ap suc (good_count lines e)
 good_count (Malformed reason ∷ lines) e = absurd cc
 
-pub ok_places : (result : Result (Unit {0}) Full) (lines : List Asked) (before after : ℕ) → is_refused lines ≡ false → after ≡ before + length (requests_of lines) → IfOk result (λ _. is_refused lines ≡ false → after ≡ before + length lines)
-ok_places (Ok done) lines before after good e = λ _. e ∙ ap (λ n. before + n) (good_count lines good)
-ok_places (Err full) lines before after good e = tt
+pub ok_places : (result : Result (Unit {0}) Full) (lines : List Asked) (before after : ℕ) → after ≡ before + length (requests_of lines) → IfOk result (λ _. is_refused lines ≡ false → after ≡ before + length lines)
+ok_places (Ok done) lines before after e = λ good. e ∙ ap (λ n. before + n) (good_count lines good)
+ok_places (Err full) lines before after e = tt

@@ -166,6 +166,39 @@ fn enter_pause<D: Desk>(conn: u32, desk: &mut D) -> Result<(), Full>
     }
 }
 
+/// Enters the requests of lines and then a Pause, and notes the places of the requests.
+fn enter_and_pause<D: Desk>(
+    conn: u32,
+    asked: &[Asked],
+    stash: &mut Option<Stash<D::Item>>,
+    places: &mut Vec<u32>,
+    desk: &mut D,
+) -> Result<(), Full>
+where
+    D::Item: Drop,
+    requires serving { IsServing conn (D.tells desk.old) }
+    requires acts { AllByRecursion (LineCanAsk (D.tells desk.old).seen.project) asked.now }
+    requires fits { Fits (D.fits (D.tells desk.old).held) stash.old }
+    requires room { IsTrue (D.tells desk.old).metered
+        → length asked.now + 1 ≤ (D.tells desk.old).room }
+    requires places { vec_len places.old + length asked.now ≤ vec_capacity places.old }
+    ensures entered { (requested : List ℕ) × EntersSo result conn
+        (stored_for (unit_kept stash.old) (requests_of asked.now ++ Act.Pause ∷ [])) requested
+        (D.tells desk.old) (D.tells desk.new) × (places.new.items ≡ places.old.items ++ requested) }
+    ensures left { IfOk result (λ _. stash.new ≡ stash_behind stash.old (requests_of asked.now)) }
+    ensures count { IfOk result (λ _. is_refused asked.now ≡ false
+        → length places.new.items ≡ length places.old.items + length asked.now) }
+    ensures roomy { length asked.now + 1 ≤ (D.tells desk.old).room → IsOk result }
+    ensures serving { IsServing conn (D.tells desk.new) }
+    ensures fits { Fits (D.fits (D.tells desk.old).held) stash.new }
+    ensures capacity { vec_capacity places.new ≡ vec_capacity places.old }
+{
+    match enter_requests(conn, asked, stash, places, desk) {
+        Ok(()) => enter_pause(conn, desk),
+        Err(full) => Err(full),
+    }
+}
+
 /// Enters the requests of a block in order and then a Pause, or nothing where some line of it is malformed. It notes
 /// the places of the requests.
 pub(crate) fn enter_block<D: Desk>(
@@ -198,8 +231,5 @@ where
     if is_refused(asked) {
         return Ok(());
     }
-    match enter_requests(conn, asked, stash, places, desk) {
-        Ok(()) => enter_pause(conn, desk),
-        Err(full) => Err(full),
-    }
+    enter_and_pause(conn, asked, stash, places, desk)
 }
