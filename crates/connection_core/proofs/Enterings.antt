@@ -1,9 +1,9 @@
 -- Acts that are entered at a desk, one after another.
-use Rattle.std.proofs.Common.{◌≡◌, ◌≢◌, ◌⊎◌, inl, inr, ℕ, zero, suc, ◌+◌, ◌-◌, ◌<◌, ◌≤◌, ◌==◌, ◌&&◌, Bool, true, false, cond, List, [], ◌∷◌, ◌++◌, length, drop, Contains, Option, Some, None, Ok, Err, Result, IfOk, IfErr, IsTrue, IsFalse, refl, sym, ap, subst, ◌∙◌, append_assoc, arith}
+use Rattle.std.proofs.Common.{◌≡◌, ◌≢◌, ◌⊎◌, inl, inr, ℕ, zero, suc, ◌+◌, ◌-◌, ◌<◌, ◌≤◌, ◌==◌, ◌&&◌, ◌||◌, Bool, true, false, cond, List, [], ◌∷◌, ◌++◌, length, drop, Contains, Option, Some, None, Ok, Err, Result, IfOk, IfErr, IsTrue, IsFalse, refl, sym, ap, subst, ◌∙◌, append_assoc, arith}
 use Rattle.std.specs.Prelude.{filter_map, if◌then◌else◌}
 use Rattle.std.proofs.lemmas.Bool.{ne_eqb, eqb-true, eq-eqb}
 use Rattle.std.proofs.lemmas.List.{append-nil, length-append, drop_all}
-use Rattle.std.specs.List.{AllByRecursion}
+use Rattle.std.specs.List.{AllByRecursion, list_any}
 use Rattle.unit_registry.specs.declared.act.Act.{Act as Acts}
 use Rattle.unit_registry.specs.declared.act.Act.TheVariants as act
 use Rattle.unit_registry.specs.Projects.{ProjectView}
@@ -18,9 +18,10 @@ use Rattle.registry_core.specs.Desks.{DeskState, Stays, Looks, Adds, IsSound, co
 use Rattle.registry_core.proofs.Desks.{looks_open, looks_apart, adds_apart, adds_own, adds_is_open, stays_further, stays_same}
 use Rattle.connection_core.specs.declared.asked.Asked.{Asked}
 use Rattle.connection_core.specs.declared.asked.Asked.TheVariants.{Act, Malformed}
+use Rattle.connection_core.specs.declared.entering.Stash.{Stash}
 use Rattle.connection_core.specs.Asking.{reports, with_item, stored_for, requests_of, act_in, entered_by, is_refused}
 use Rattle.connection_core.specs.Answers.{acts_of, request_places, is_request}
-use Rattle.connection_core.specs.Entering.{Enters, EntersPart, EntersSo, EntersLine, IsServing, as_entered, is_awaited, unit_left, unit_behind, CanAsk, LineCanAsk}
+use Rattle.connection_core.specs.Entering.{Enters, EntersPart, EntersSo, EntersLine, IsServing, as_entered, is_awaited, unit_kept, stash_left, stash_behind, CanAsk, LineCanAsk}
 use Rattle.connection_core.specs.Working.{EntersSoFar}
 
 -- ---- the acts and the requests of a connection in more of a history
@@ -155,12 +156,12 @@ serving_looks conn before after serving sound looks = record {
 
 -- ---- the kept item
 
-pub plain_entered : (kept : Option ℕ) (asked : Acts) → is_awaited kept asked ≡ false → (as_entered kept asked ≡ asked) × (unit_left kept asked ≡ kept)
+pub plain_entered : {Item : Type 0} (stash : Option (Stash Item)) (asked : Acts) → is_awaited (unit_kept stash) asked ≡ false → (as_entered (unit_kept stash) asked ≡ asked) × (stash_left stash asked ≡ stash)
 plain_entered None asked e = (refl, refl)
-plain_entered (Some unit) asked e = (ap (λ b. cond b (act.Compiled (Some unit) true) asked) e, ap (λ b. cond b None (Some unit)) e)
+plain_entered (Some kept) asked e = (ap (λ b. cond b (act.Compiled (Some kept.unit) true) asked) e, ap (λ b. cond b None (Some kept)) e)
 
-pub awaited_entered : (unit : ℕ) (asked : Acts) → is_awaited (Some unit) asked ≡ true → (as_entered (Some unit) asked ≡ act.Compiled (Some unit) true) × (unit_left (Some unit) asked ≡ None)
-awaited_entered unit asked e = (ap (λ b. cond b (act.Compiled (Some unit) true) asked) e, ap (λ b. cond b None (Some unit)) e)
+pub awaited_entered : {Item : Type 0} (kept : Stash Item) (asked : Acts) → is_awaited (Some kept.unit) asked ≡ true → (as_entered (Some kept.unit) asked ≡ act.Compiled (Some kept.unit) true) × (stash_left (Some kept) asked ≡ None)
+awaited_entered kept asked e = (ap (λ b. cond b (act.Compiled (Some kept.unit) true) asked) e, ap (λ b. cond b None (Some kept)) e)
 
 -- the report with an item may be asked where the one without may
 awaited_range : (project : ProjectView) (unit : ℕ) (asked : Acts) → is_awaited (Some unit) asked ≡ true → is_out_of_range project asked ≡ is_out_of_range project (act.Compiled (Some unit) true)
@@ -182,13 +183,26 @@ pub awaited_in_range : (project : ProjectView) (unit : ℕ) (asked : Acts) → i
 awaited_in_range project unit asked e can = sym (awaited_range project unit asked e) ∙ can.range
 
 -- the first of the acts as it is entered, and the others
-stored-next : (kept : Option ℕ) (asked : Acts) (rest : List Acts) → stored_for kept (asked ∷ rest) ≡ as_entered kept asked ∷ stored_for (unit_left kept asked) rest
+stored-next : {Item : Type 0} (stash : Option (Stash Item)) (asked : Acts) (rest : List Acts) → stored_for (unit_kept stash) (asked ∷ rest) ≡ as_entered (unit_kept stash) asked ∷ stored_for (unit_kept (stash_left stash asked)) rest
 stored-next None asked rest = refl
-stored-next (Some unit) asked rest = by (reports unit asked)
+stored-next (Some kept) asked rest = by (reports kept.unit asked)
   where
-    by : (b : Bool) → cond b (act.Compiled (Some unit) true ∷ rest) (asked ∷ with_item unit rest) ≡ cond b (act.Compiled (Some unit) true) asked ∷ stored_for (cond b None (Some unit)) rest
+    by : (b : Bool) → cond b (act.Compiled (Some kept.unit) true ∷ rest) (asked ∷ with_item kept.unit rest) ≡ cond b (act.Compiled (Some kept.unit) true) asked ∷ stored_for (unit_kept (cond b None (Some kept))) rest
     by true = refl
     by false = refl
+
+-- what is kept behind the first of the acts and then behind the others
+behind_next : {Item : Type 0} (stash : Option (Stash Item)) (asked : Acts) (rest : List Acts) → stash_behind stash (asked ∷ rest) ≡ stash_behind (stash_left stash asked) rest
+behind_next None asked rest = refl
+behind_next (Some kept) asked rest = by (reports kept.unit asked)
+  where
+    by : (b : Bool) → cond (b || list_any (reports kept.unit) rest) None (Some kept) ≡ stash_behind (cond b None (Some kept)) rest
+    by true = refl
+    by false = refl
+
+behind_none : {Item : Type 0} (stash : Option (Stash Item)) → stash_behind stash [] ≡ stash
+behind_none None = refl
+behind_none (Some kept) = refl
 
 -- ---- line by line
 
@@ -215,7 +229,7 @@ request_entered (Some unit) asked e = by (reports unit asked)
 place_of_request : (kept : Option ℕ) (asked : Acts) (place : ℕ) → is_request asked ≡ true → place_if (as_entered kept asked) place ≡ place ∷ []
 place_of_request kept asked place e = ap (λ b. cond b (place ∷ []) []) (request_entered kept asked e)
 
-pub lines_begin : {Held : Type 0} (conn : ℕ) (asked : List Asked) (kept : Option ℕ) (old : List ℕ) (desk : DeskState Held) → AllByRecursion (LineCanAsk desk.seen.project) asked → IsServing conn desk
+pub lines_begin : {Item Held : Type 0} (conn : ℕ) (asked : List Asked) (kept : Option (Stash Item)) (old : List ℕ) (desk : DeskState Held) → AllByRecursion (LineCanAsk desk.seen.project) asked → IsServing conn desk
     → EntersSoFar conn asked 0 kept kept old old desk desk
 lines_begin conn asked kept old desk can serving = record {
   done = [];
@@ -231,7 +245,7 @@ lines_begin conn asked kept old desk can serving = record {
   serving = serving;
 }
 
-module _ {Held : Type 0} (conn : ℕ) (asked : List Asked) (k : ℕ) (kept left : Option ℕ) (old now : List ℕ) (first before : DeskState Held) (h : EntersSoFar conn asked k kept left old now first before) where
+module _ {Item Held : Type 0} (conn : ℕ) (asked : List Asked) (k : ℕ) (kept left : Option (Stash Item)) (old now : List ℕ) (first before : DeskState Held) (h : EntersSoFar conn asked k kept left old now first before) where
   can_now : (line : Asked) → drop k asked ≡ line ∷ drop (k + 1) asked → LineCanAsk first.seen.project line × AllByRecursion (LineCanAsk first.seen.project) (drop (k + 1) asked)
   can_now line next = subst (λ (xs : List Asked). AllByRecursion (LineCanAsk first.seen.project) xs) next h.can
 
@@ -239,57 +253,64 @@ module _ {Held : Type 0} (conn : ℕ) (asked : List Asked) (k : ℕ) (kept left 
   pub line_can : (line : Asked) → drop k asked ≡ line ∷ drop (k + 1) asked → LineCanAsk before.seen.project line
   line_can line next = subst (λ (p : ProjectView). LineCanAsk p line) (sym h.entered.stays.project) (can_now line next).0
 
-  acts_next : (asks : Acts) → drop k asked ≡ Act asks ∷ drop (k + 1) asked → (h.done ++ as_entered left asks ∷ []) ++ stored_for (unit_left left asks) (requests_of (drop (k + 1) asked)) ≡ stored_for kept (requests_of asked)
+  -- the act as it is entered
+  abbrev entered_as : Acts → Acts
+  entered_as asks = as_entered (unit_kept left) asks
+
+  acts_next : (asks : Acts) → drop k asked ≡ Act asks ∷ drop (k + 1) asked → (h.done ++ entered_as asks ∷ []) ++ stored_for (unit_kept (stash_left left asks)) (requests_of (drop (k + 1) asked)) ≡ stored_for (unit_kept kept) (requests_of asked)
   acts_next asks next =
-      append_assoc h.done (as_entered left asks ∷ []) (stored_for (unit_left left asks) (requests_of (drop (k + 1) asked)))
+      append_assoc h.done (entered_as asks ∷ []) (stored_for (unit_kept (stash_left left asks)) (requests_of (drop (k + 1) asked)))
       ∙ ap (λ (xs : List Acts). h.done ++ xs) (sym (stored-next left asks (requests_of (drop (k + 1) asked))))
-      ∙ ap (λ (xs : List Asked). h.done ++ stored_for left (requests_of xs)) (sym next) ∙ h.acts
+      ∙ ap (λ (xs : List Asked). h.done ++ stored_for (unit_kept left) (requests_of xs)) (sym next) ∙ h.acts
+
+  left_next : (asks : Acts) → drop k asked ≡ Act asks ∷ drop (k + 1) asked → stash_behind (stash_left left asks) (requests_of (drop (k + 1) asked)) ≡ stash_behind kept (requests_of asked)
+  left_next asks next = sym (behind_next left asks (requests_of (drop (k + 1) asked))) ∙ ap (λ (xs : List Asked). stash_behind left (requests_of xs)) (sym next) ∙ h.left_is
 
   -- one line more
-  pub line_more : (line : Asked) (left' : Option ℕ) (new : List ℕ) (after : DeskState Held) → drop k asked ≡ line ∷ drop (k + 1) asked
+  pub line_more : (line : Asked) (left' : Option (Stash Item)) (new : List ℕ) (after : DeskState Held) → drop k asked ≡ line ∷ drop (k + 1) asked
       → EntersLine (Ok tt) conn line left left' now new before after → IsSound after → EntersSoFar conn asked (k + 1) kept left' old new first after
   line_more (Act asks) left' new after next e sound =
       let can = (can_now (Act asks) next).0 in
-      let asking = asks_entered left asks can.asks in
-      let at = place_of_request left asks e.0 can.request in
+      let asking = asks_entered (unit_kept left) asks can.asks in
+      let at = place_of_request (unit_kept left) asks e.0 can.request in
       record {
-        done = h.done ++ as_entered left asks ∷ [];
+        done = h.done ++ entered_as asks ∷ [];
         requested = h.requested ++ e.0 ∷ [];
-        entered = subst (λ (ps : List ℕ). Enters conn (h.done ++ as_entered left asks ∷ []) (h.requested ++ ps) first after) at (enters_more conn h.done h.requested first before after h.entered (as_entered left asks) e.0 asking h.serving sound e.1);
+        entered = subst (λ (ps : List ℕ). Enters conn (h.done ++ entered_as asks ∷ []) (h.requested ++ ps) first after) at (enters_more conn h.done h.requested first before after h.entered (entered_as asks) e.0 asking h.serving sound e.1);
         places = e.2 ∙ ap (λ (ps : List ℕ). ps ++ e.0 ∷ []) h.places ∙ append_assoc old h.requested (e.0 ∷ []);
-        acts = ap (λ (u : Option ℕ). (h.done ++ as_entered left asks ∷ []) ++ stored_for u (requests_of (drop (k + 1) asked))) e.3 ∙ acts_next asks next;
-        few = omega (arith, h.few, length-append h.done (as_entered left asks ∷ []));
+        acts = ap (λ (u : Option (Stash Item)). (h.done ++ entered_as asks ∷ []) ++ stored_for (unit_kept u) (requests_of (drop (k + 1) asked))) e.3 ∙ acts_next asks next;
+        few = omega (arith, h.few, length-append h.done (entered_as asks ∷ []));
         few_places = omega (arith, h.few_places, length-append h.requested (e.0 ∷ []));
         as_many = omega (arith, h.as_many, length-append h.requested (e.0 ∷ []), ap (λ (xs : List Asked). length (requests_of xs)) next);
-        left_is = ap (λ (u : Option ℕ). unit_behind u (requests_of (drop (k + 1) asked))) e.3 ∙ ap (λ (xs : List Asked). unit_behind left (requests_of xs)) (sym next) ∙ h.left_is;
+        left_is = ap (λ (u : Option (Stash Item)). stash_behind u (requests_of (drop (k + 1) asked))) e.3 ∙ left_next asks next;
         can = (can_now (Act asks) next).1;
-        serving = serving_adds conn (as_entered left asks) e.0 before after asking h.serving sound e.1;
+        serving = serving_adds conn (entered_as asks) e.0 before after asking h.serving sound e.1;
       }
   line_more (Malformed reason) left' new after next e sound = record {
     done = h.done;
     requested = h.requested;
     entered = subst (λ (d : DeskState Held). Enters conn h.done h.requested first d) e.0 h.entered;
     places = e.1 ∙ h.places;
-    acts = ap (λ (u : Option ℕ). h.done ++ stored_for u (requests_of (drop (k + 1) asked))) e.2 ∙ ap (λ (xs : List Asked). h.done ++ stored_for left (requests_of xs)) (sym next) ∙ h.acts;
+    acts = ap (λ (u : Option (Stash Item)). h.done ++ stored_for (unit_kept u) (requests_of (drop (k + 1) asked))) e.2 ∙ ap (λ (xs : List Asked). h.done ++ stored_for (unit_kept left) (requests_of xs)) (sym next) ∙ h.acts;
     few = omega (arith, h.few);
     few_places = omega (arith, h.few_places);
     as_many = ap (λ (xs : List Asked). length h.requested + length (requests_of xs)) (sym next) ∙ h.as_many;
-    left_is = ap (λ (u : Option ℕ). unit_behind u (requests_of (drop (k + 1) asked))) e.2 ∙ ap (λ (xs : List Asked). unit_behind left (requests_of xs)) (sym next) ∙ h.left_is;
+    left_is = ap (λ (u : Option (Stash Item)). stash_behind u (requests_of (drop (k + 1) asked))) e.2 ∙ ap (λ (xs : List Asked). stash_behind left (requests_of xs)) (sym next) ∙ h.left_is;
     can = (can_now (Malformed reason) next).1;
     serving = subst (λ (d : DeskState Held). IsServing conn d) e.0 h.serving;
   }
 
   -- no room for a line
-  pub line_stops : (line : Asked) (left' : Option ℕ) (new : List ℕ) (full : Full) (after : DeskState Held) → drop k asked ≡ line ∷ drop (k + 1) asked
+  pub line_stops : (line : Asked) (left' : Option (Stash Item)) (new : List ℕ) (full : Full) (after : DeskState Held) → drop k asked ≡ line ∷ drop (k + 1) asked
       → EntersLine (Err full) conn line left left' now new before after → IsSound after
-      → ((requested : List ℕ) × EntersPart conn (stored_for kept (requests_of asked)) full first after × (new ≡ old ++ requested)) × IsServing conn after
+      → ((requested : List ℕ) × EntersPart conn (stored_for (unit_kept kept) (requests_of asked)) full first after × (new ≡ old ++ requested)) × IsServing conn after
   line_stops (Act asks) left' new full after next e sound = (
     (
       h.requested,
       record {
         part = h.done;
-        missing = as_entered left asks ∷ stored_for (unit_left left asks) (requests_of (drop (k + 1) asked));
-        parts = sym (acts_next asks next) ∙ append_assoc h.done (as_entered left asks ∷ []) (stored_for (unit_left left asks) (requests_of (drop (k + 1) asked)));
+        missing = entered_as asks ∷ stored_for (unit_kept (stash_left left asks)) (requests_of (drop (k + 1) asked));
+        parts = sym (acts_next asks next) ∙ append_assoc h.done (entered_as asks ∷ []) (stored_for (unit_kept (stash_left left asks)) (requests_of (drop (k + 1) asked)));
         some_missing = λ none. absurd (cc none);
         requested = h.requested;
         entered = enters_looks conn h.done h.requested first before after h.entered h.serving sound e.0;
@@ -305,13 +326,13 @@ module _ {Held : Type 0} (conn : ℕ) (asked : List Asked) (k : ℕ) (kept left 
   pub places_end : length asked ≤ k → length now ≡ length old + length (requests_of asked)
   places_end le = omega (arith, ap length h.places, length-append old h.requested, h.as_many, ap (λ (xs : List Asked). length (requests_of xs)) (drop_all k asked le))
 
-  pub lines_end : length asked ≤ k → ((requested : List ℕ) × Enters conn (stored_for kept (requests_of asked)) requested first before × (now ≡ old ++ requested)) × (left ≡ unit_behind kept (requests_of asked))
+  pub lines_end : length asked ≤ k → ((requested : List ℕ) × Enters conn (stored_for (unit_kept kept) (requests_of asked)) requested first before × (now ≡ old ++ requested)) × (left ≡ stash_behind kept (requests_of asked))
   lines_end le =
       let none : drop k asked ≡ [] = drop_all k asked le in
-      let all : h.done ≡ stored_for kept (requests_of asked) =
-      sym (append-nil h.done) ∙ ap (λ (xs : List Acts). h.done ++ xs) (sym (stored_none left)) ∙ ap (λ (xs : List Asked). h.done ++ stored_for left (requests_of xs)) (sym none) ∙ h.acts in (
+      let all : h.done ≡ stored_for (unit_kept kept) (requests_of asked) =
+      sym (append-nil h.done) ∙ ap (λ (xs : List Acts). h.done ++ xs) (sym (stored_none (unit_kept left))) ∙ ap (λ (xs : List Asked). h.done ++ stored_for (unit_kept left) (requests_of xs)) (sym none) ∙ h.acts in (
         (h.requested, subst (λ (xs : List Acts). Enters conn xs h.requested first before) all h.entered, h.places),
-        ap (λ (xs : List Asked). unit_behind left (requests_of xs)) (sym none) ∙ h.left_is,
+        sym (behind_none left) ∙ ap (λ (xs : List Asked). stash_behind left (requests_of xs)) (sym none) ∙ h.left_is,
       )
 
 -- ---- a block
@@ -319,12 +340,8 @@ module _ {Held : Type 0} (conn : ℕ) (asked : List Asked) (k : ℕ) (kept left 
 refused_enters : (lines : List Asked) → is_refused lines ≡ true → entered_by lines ≡ []
 refused_enters lines e = ap (λ b. cond b [] (requests_of lines ++ act.Pause ∷ [])) e
 
-good_enters : (lines : List Asked) → is_refused lines ≡ false → entered_by lines ≡ requests_of lines ++ act.Pause ∷ []
+pub good_enters : (lines : List Asked) → is_refused lines ≡ false → entered_by lines ≡ requests_of lines ++ act.Pause ∷ []
 good_enters lines e = ap (λ b. cond b [] (requests_of lines ++ act.Pause ∷ [])) e
-
-pause_left : (kept : Option ℕ) → unit_left kept act.Pause ≡ kept
-pause_left None = refl
-pause_left (Some unit) = refl
 
 with_pause : (unit : ℕ) (asked : List Acts) → with_item unit (asked ++ act.Pause ∷ []) ≡ with_item unit asked ++ act.Pause ∷ []
 with_pause unit [] = refl
@@ -339,41 +356,41 @@ stored_pause : (kept : Option ℕ) (asked : List Acts) → stored_for kept (aske
 stored_pause None asked = refl
 stored_pause (Some unit) asked = with_pause unit asked
 
-behind_pause : (kept : Option ℕ) (asked : List Acts) → unit_behind kept (asked ++ act.Pause ∷ []) ≡ unit_behind kept asked
-behind_pause kept [] = pause_left kept
-behind_pause kept (a ∷ asked) = behind_pause (unit_left kept a) asked
+no_report : (unit : ℕ) (asked : List Acts) → list_any (reports unit) (asked ++ act.Pause ∷ []) ≡ list_any (reports unit) asked
+no_report unit [] = refl
+no_report unit (a ∷ asked) = ap (λ b. reports unit a || b) (no_report unit asked)
 
--- what a good block enters, with the kept item
-good_stored : (kept : Option ℕ) (lines : List Asked) → is_refused lines ≡ false → stored_for kept (entered_by lines) ≡ stored_for kept (requests_of lines) ++ act.Pause ∷ []
-good_stored kept lines e = ap (stored_for kept) (good_enters lines e) ∙ stored_pause kept (requests_of lines)
+behind_pause : {Item : Type 0} (stash : Option (Stash Item)) (asked : List Acts) → stash_behind stash (asked ++ act.Pause ∷ []) ≡ stash_behind stash asked
+behind_pause None asked = refl
+behind_pause (Some kept) asked = ap (λ b. cond b None (Some kept)) (no_report kept.unit asked)
 
 pub refused_so : {Held : Type 0} (conn : ℕ) (kept : Option ℕ) (lines : List Asked) (desk : DeskState Held) (old : List ℕ) → is_refused lines ≡ true
     → (requested : List ℕ) × Enters conn (stored_for kept (entered_by lines)) requested desk desk × (old ≡ old ++ requested)
 refused_so {Held} conn kept lines desk old e =
     ([], subst (λ (xs : List Acts). Enters conn xs [] desk desk) (sym (ap (stored_for kept) (refused_enters lines e) ∙ stored_none kept)) (enters_nothing conn desk), sym (append-nil old))
 
-pub refused_left : (kept : Option ℕ) (lines : List Asked) → is_refused lines ≡ true → kept ≡ unit_behind kept (entered_by lines)
-refused_left kept lines e = sym (ap (unit_behind kept) (refused_enters lines e))
+pub refused_left : {Item : Type 0} (stash : Option (Stash Item)) (lines : List Asked) → is_refused lines ≡ true → stash ≡ stash_behind stash (entered_by lines)
+refused_left stash lines e = sym (ap (stash_behind stash) (refused_enters lines e) ∙ behind_none stash)
 
-pub good_left : (kept : Option ℕ) (lines : List Asked) → is_refused lines ≡ false → unit_behind kept (requests_of lines) ≡ unit_behind kept (entered_by lines)
-good_left kept lines e = sym (ap (unit_behind kept) (good_enters lines e) ∙ behind_pause kept (requests_of lines))
+pub good_left : {Item : Type 0} (stash : Option (Stash Item)) (lines : List Asked) → is_refused lines ≡ false → stash_behind stash (requests_of lines) ≡ stash_behind stash (entered_by lines)
+good_left stash lines e = sym (ap (stash_behind stash) (good_enters lines e) ∙ behind_pause stash (requests_of lines))
 
-module _ {Held : Type 0} (conn : ℕ) (kept : Option ℕ) (lines : List Asked) (first before after : DeskState Held) (good : is_refused lines ≡ false) where
+module _ {Held : Type 0} (conn : ℕ) (kept : Option ℕ) (lines : List Asked) (first before after : DeskState Held) where
   -- all was entered, and the Pause
-  pub block_paused : (requested : List ℕ) (place : ℕ) → Enters conn (stored_for kept (requests_of lines)) requested first before → IsServing conn before → IsSound after
-      → Adds before (entry conn act.Pause) place after → Enters conn (stored_for kept (entered_by lines)) requested first after
-  block_paused requested place h serving sound adds =
-      subst (λ (xs : List Acts). Enters conn xs requested first after) (sym (good_stored kept lines good))
+  paused : (requested : List ℕ) (place : ℕ) → Enters conn (stored_for kept (requests_of lines)) requested first before → IsServing conn before → IsSound after
+      → Adds before (entry conn act.Pause) place after → Enters conn (stored_for kept (requests_of lines ++ act.Pause ∷ [])) requested first after
+  paused requested place h serving sound adds =
+      subst (λ (xs : List Acts). Enters conn xs requested first after) (sym (stored_pause kept (requests_of lines)))
       (subst (λ (ps : List ℕ). Enters conn (stored_for kept (requests_of lines) ++ act.Pause ∷ []) ps first after) (append-nil requested)
       (enters_more conn (stored_for kept (requests_of lines)) requested first before after h act.Pause place refl serving sound adds))
 
   -- all was entered but the Pause
-  pub block_not_paused : (requested : List ℕ) (full : Full) → Enters conn (stored_for kept (requests_of lines)) requested first before → IsServing conn before → IsSound after
-      → Looks before after → IsFull after.seen 0 full → EntersPart conn (stored_for kept (entered_by lines)) full first after
-  block_not_paused requested full h serving sound looks is_full = record {
+  not_paused : (requested : List ℕ) (full : Full) → Enters conn (stored_for kept (requests_of lines)) requested first before → IsServing conn before → IsSound after
+      → Looks before after → IsFull after.seen 0 full → EntersPart conn (stored_for kept (requests_of lines ++ act.Pause ∷ [])) full first after
+  not_paused requested full h serving sound looks is_full = record {
     part = stored_for kept (requests_of lines);
     missing = act.Pause ∷ [];
-    parts = good_stored kept lines good;
+    parts = stored_pause kept (requests_of lines);
     some_missing = λ none. absurd (cc none);
     requested = requested;
     entered = enters_looks conn (stored_for kept (requests_of lines)) requested first before after h serving sound looks;
@@ -381,11 +398,11 @@ module _ {Held : Type 0} (conn : ℕ) (kept : Option ℕ) (lines : List Asked) (
   }
 
   -- only some of the requests were entered
-  pub block_part : (full : Full) → EntersPart conn (stored_for kept (requests_of lines)) full first after → EntersPart conn (stored_for kept (entered_by lines)) full first after
+  pub block_part : (full : Full) → EntersPart conn (stored_for kept (requests_of lines)) full first after → EntersPart conn (stored_for kept (requests_of lines ++ act.Pause ∷ [])) full first after
   block_part full h = record {
     part = h.part;
     missing = h.missing ++ act.Pause ∷ [];
-    parts = good_stored kept lines good ∙ ap (λ (xs : List Acts). xs ++ act.Pause ∷ []) h.parts ∙ append_assoc h.part h.missing (act.Pause ∷ []);
+    parts = stored_pause kept (requests_of lines) ∙ ap (λ (xs : List Acts). xs ++ act.Pause ∷ []) h.parts ∙ append_assoc h.part h.missing (act.Pause ∷ []);
     some_missing = λ none. some h.missing none;
     requested = h.requested;
     entered = h.entered;
@@ -397,16 +414,16 @@ module _ {Held : Type 0} (conn : ℕ) (kept : Option ℕ) (lines : List Asked) (
       some (x ∷ xs) e = absurd (cc e)
 
 -- the Pause was entered, or had no room
-pub block_ends : {Held : Type 0} (result : Result (Unit {0}) Full) (conn : ℕ) (kept : Option ℕ) (lines : List Asked) (requested old new : List ℕ) (first before after : DeskState Held) → is_refused lines ≡ false
+pub block_ends : {Held : Type 0} (result : Result (Unit {0}) Full) (conn : ℕ) (kept : Option ℕ) (lines : List Asked) (requested old new : List ℕ) (first before after : DeskState Held)
     → Enters conn (stored_for kept (requests_of lines)) requested first before → new ≡ old ++ requested → IsServing conn before → IsSound after
     → IfOk result (λ _. (place : ℕ) × Adds before (entry conn act.Pause) place after) → IfErr result (λ full. Looks before after) → IfErr result (λ full. IsFull after.seen 0 full)
-    → ((requested : List ℕ) × EntersSo result conn (stored_for kept (entered_by lines)) requested first after × (new ≡ old ++ requested)) × IsServing conn after
-block_ends (Ok done) conn kept lines requested old new first before after good h places serving sound adds looks full =
-    ((requested, block_paused conn kept lines first before after good requested adds.0 h serving sound adds.1, places), serving_adds conn act.Pause adds.0 before after refl serving sound adds.1)
-block_ends (Err full) conn kept lines requested old new first before after good h places serving sound adds looks is_full =
-    ((requested, block_not_paused conn kept lines first before after good requested full h serving sound looks is_full, places), serving_looks conn before after serving sound looks)
+    → ((requested : List ℕ) × EntersSo result conn (stored_for kept (requests_of lines ++ act.Pause ∷ [])) requested first after × (new ≡ old ++ requested)) × IsServing conn after
+block_ends (Ok done) conn kept lines requested old new first before after h places serving sound adds looks full =
+    ((requested, paused conn kept lines first before after requested adds.0 h serving sound adds.1, places), serving_adds conn act.Pause adds.0 before after refl serving sound adds.1)
+block_ends (Err full) conn kept lines requested old new first before after h places serving sound adds looks is_full =
+    ((requested, not_paused conn kept lines first before after requested full h serving sound looks is_full, places), serving_looks conn before after serving sound looks)
 
-pub ok_left : (result : Result (Unit {0}) Full) (kept left : Option ℕ) (lines : List Asked) → is_refused lines ≡ false → left ≡ unit_behind kept (requests_of lines) → IfOk result (λ _. left ≡ unit_behind kept (entered_by lines))
+pub ok_left : {Item : Type 0} (result : Result (Unit {0}) Full) (kept left : Option (Stash Item)) (lines : List Asked) → is_refused lines ≡ false → IfOk result (λ _. left ≡ stash_behind kept (requests_of lines)) → IfOk result (λ _. left ≡ stash_behind kept (entered_by lines))
 ok_left (Ok done) kept left lines good e = e ∙ good_left kept lines good
 ok_left (Err full) kept left lines good e = tt
 
@@ -443,6 +460,6 @@ good_count [] e = refl
 good_count (Act a ∷ lines) e = ap suc (good_count lines e)
 good_count (Malformed reason ∷ lines) e = absurd cc
 
-pub ok_places : (result : Result (Unit {0}) Full) (lines : List Asked) (before after : ℕ) → is_refused lines ≡ false → after ≡ before + length (requests_of lines) → IfOk result (λ _. is_refused lines ≡ false → after ≡ before + length lines)
-ok_places (Ok done) lines before after good e = λ _. e ∙ ap (λ n. before + n) (good_count lines good)
-ok_places (Err full) lines before after good e = tt
+pub ok_places : (result : Result (Unit {0}) Full) (lines : List Asked) (before after : ℕ) → after ≡ before + length (requests_of lines) → IfOk result (λ _. is_refused lines ≡ false → after ≡ before + length lines)
+ok_places (Ok done) lines before after e = λ good. e ∙ ap (λ n. before + n) (good_count lines good)
+ok_places (Err full) lines before after e = tt

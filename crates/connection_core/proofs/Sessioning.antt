@@ -55,6 +55,10 @@ reads_nothing (took.Ended (Truncated lines)) at old new desk none h = absurd h.1
 reads_nothing (took.Ended ReadFault) at old new desk none h = absurd h.1
 reads_nothing (took.Ended WriteFault) at old new desk none h = absurd h.1
 
+-- a reader knows of no history
+pub reads_not_full : (result : Took) (at : Stage) → StageAfter result at → (entries reserved : ℕ) → result ≡ took.Ended (HistoryFull entries reserved) → ⊥
+reads_not_full result at h entries reserved e = (subst (λ (r : Took). StageAfter r at) e h).1
+
 -- the lines of a block that ended have room
 pub block_room : {Item : Type 0} (s : SessionState Item) (reader new : ReaderState) (project : ProjectView) (piece : List ℕ) (room used : ℕ) (lines : List Asked) → reader ≡ s.reader → (h : HasRoomFor s project piece room)
     → ((fed : List ℕ) → ReaderStands reader project fed → TakesBlock project fed piece used new) → lines ≡ new.asked → length lines + 1 ≤ room

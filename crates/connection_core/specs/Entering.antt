@@ -1,5 +1,6 @@
 -- How the acts of a block are entered at a desk.
 use Rattle.std.specs.Prelude.{◌≡◌, ◌≢◌, ℕ, ◌+◌, ◌-◌, ◌≤◌, Bool, true, false, if◌then◌else◌, List, [], ◌∷◌, ◌++◌, length, Option, Some, None, Result, Ok, Err, IsTrue, IsFalse, Contains}
+use Rattle.std.specs.List.{list_any}
 use Rattle.unit_registry.specs.declared.act.Act.{Act as Acts}
 use Rattle.unit_registry.specs.declared.act.Act.TheVariants as act
 use Rattle.unit_registry.specs.Projects.{ProjectView}
@@ -64,15 +65,15 @@ abbrev pub as_entered : Option ℕ → Acts → Acts
 as_entered None asked = asked
 as_entered (Some unit) asked = if reports unit asked then act.Compiled (Some unit) true else asked
 
--- the unit for which an item is kept behind the act
-abbrev pub unit_left : Option ℕ → Acts → Option ℕ
-unit_left None asked = None
-unit_left (Some unit) asked = if reports unit asked then None else Some unit
+-- what is kept behind the act: the item, unless the act reports its unit
+abbrev pub stash_left : {Item : Type 0} → Option (Stash Item) → Acts → Option (Stash Item)
+stash_left None asked = None
+stash_left (Some kept) asked = if reports kept.unit asked then None else Some kept
 
--- the unit for which an item is kept behind the acts
-abbrev pub unit_behind : Option ℕ → List Acts → Option ℕ
-unit_behind kept [] = kept
-unit_behind kept (asked ∷ rest) = unit_behind (unit_left kept asked) rest
+-- what is kept behind the acts: the item, unless one of them reports its unit
+abbrev pub stash_behind : {Item : Type 0} → Option (Stash Item) → List Acts → Option (Stash Item)
+stash_behind None asked = None
+stash_behind (Some kept) asked = if list_any (reports kept.unit) asked then None else Some kept
 
 -- the kept item fits its unit
 abbrev pub Fits : {Item : Type 0} → (ℕ → Item → Type 0) → Option (Stash Item) → Type 0
@@ -101,9 +102,9 @@ pub record IsServing {Held : Type 0} (conn : ℕ) (desk : DeskState Held) : Type
 
 -- what entering a line comes to: its act stands at a place, which was noted, or there was no room for it; a malformed
 -- line changes nothing
-abbrev pub EntersLine : {Held : Type 0} → Result (Unit {0}) Full → ℕ → Asked → Option ℕ → Option ℕ → List ℕ → List ℕ → DeskState Held → DeskState Held → Type 0
+abbrev pub EntersLine : {Item Held : Type 0} → Result (Unit {0}) Full → ℕ → Asked → Option (Stash Item) → Option (Stash Item) → List ℕ → List ℕ → DeskState Held → DeskState Held → Type 0
 EntersLine (Ok done) conn (Act asked) kept left old new before after =
-    (place : ℕ) × Adds before (entry conn (as_entered kept asked)) place after × (new ≡ old ++ place ∷ []) × (left ≡ unit_left kept asked)
+    (place : ℕ) × Adds before (entry conn (as_entered (unit_kept kept) asked)) place after × (new ≡ old ++ place ∷ []) × (left ≡ stash_left kept asked)
 EntersLine (Ok done) conn (Malformed reason) kept left old new before after = (before ≡ after) × (new ≡ old) × (left ≡ kept)
 EntersLine (Err full) conn (Act asked) kept left old new before after = Looks before after × IsFull after.seen 0 full × (new ≡ old)
 EntersLine (Err full) conn (Malformed reason) kept left old new before after = ⊥

@@ -4,11 +4,13 @@ use Rattle.mm_outside.specs.declared.errors.Failed.{Failed}
 use Rattle.mm_outside.specs.Octets.{Octets}
 use Rattle.mm_outside.specs.Sending.{Sends}
 use Rattle.mm_outside.specs.Told.{Told}
+use Rattle.cody_words.specs.Buffers.{Buffer}
 use Rattle.cody_batches.specs.Blocks.{most_lines}
 use Rattle.unit_registry.specs.declared.act.Act.{Act as Acts}
 use Rattle.unit_registry.specs.Projects.{ProjectView}
 use Rattle.registry_core.specs.Ledgers.{LedgerView, reply_at}
 use Rattle.registry_core.specs.Desks.{DeskState}
+use Rattle.connection_replies.specs.Rooms.{HoldsLines}
 use Rattle.connection_core.specs.declared.asked.Asked.{Asked}
 use Rattle.connection_core.specs.declared.block_reader.Stage.{Stage}
 use Rattle.connection_core.specs.declared.block_reader.Stage.TheVariants as stage
@@ -23,7 +25,7 @@ use Rattle.connection_core.specs.Asking.{Block, entered_by, is_refused, stored_f
 use Rattle.connection_core.specs.Answers.{block_answer}
 use Rattle.connection_core.specs.Standing.{ReaderState, ReaderStands, end_in}
 use Rattle.connection_core.specs.Taking.{EndsBlock, IsLimit}
-use Rattle.connection_core.specs.Entering.{Enters, EntersPart, unit_kept, unit_behind}
+use Rattle.connection_core.specs.Entering.{Enters, EntersPart, unit_kept, stash_behind}
 
 -- What a session keeps: the reader of its octets, its connection, the item that is kept for a report, and the places of
 -- the requests of the block that ended last.
@@ -68,7 +70,7 @@ module _ {Item : Type 0} where
   abbrev pub EntersTook : {Held : Type 0} → Took → SessionState Item → SessionState Item → DeskState Held → DeskState Held → Type 0
   EntersTook took.All old new before after = after ≡ before
   EntersTook (took.Block used) old new before after =
-      Enters old.conn (acts_due old new) new.places before after × (unit_kept new.stash ≡ unit_behind (unit_kept old.stash) (entered_by (lines_of new)))
+      Enters old.conn (acts_due old new) new.places before after × (new.stash ≡ stash_behind old.stash (entered_by (lines_of new)))
   EntersTook (took.Ended (HistoryFull entries kept)) old new before after =
       EntersPart old.conn (acts_due old new) (record { entries = entries; reserved = kept }) before after
   EntersTook (took.Ended how) old new before after = after ≡ before
@@ -122,8 +124,10 @@ AsManyPlaces stage.Waiting lines places = is_refused lines ≡ false → length 
 AsManyPlaces stage.Reading lines places = Unit {0}
 AsManyPlaces (stage.Ended how) lines places = Unit {0}
 
--- there is room for the places and the replies of the longest block, and each line that waits has its place
-pub record IsPrepared (at : Stage) (lines : List Asked) (places : List ℕ) (place_room reply_room : ℕ) : Type 0 where
+-- there is room for the places, the replies and the reply lines of the longest block, and each line that waits has its
+-- place
+pub record IsPrepared (at : Stage) (lines : List Asked) (places : List ℕ) (place_room reply_room : ℕ) (reply_lines : Buffer) : Type 0 where
   pub place_room_is : most_lines ≤ place_room
   pub reply_room_is : most_lines ≤ reply_room
+  pub line_room_is : HoldsLines most_lines reply_lines
   pub as_many : AsManyPlaces at lines places

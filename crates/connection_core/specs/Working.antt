@@ -21,8 +21,9 @@ use Rattle.connection_core.specs.declared.conn_end.Took.{Took}
 use Rattle.connection_core.specs.declared.conn_end.Took.TheVariants as took
 use Rattle.unit_registry.specs.declared.act.Act.{Act as Acts}
 use Rattle.registry_core.specs.Desks.{DeskState}
+use Rattle.connection_core.specs.declared.entering.Stash.{Stash}
 use Rattle.connection_core.specs.Asking.{Block, asked_of, requests_of, stored_for}
-use Rattle.connection_core.specs.Entering.{Enters, IsServing, LineCanAsk, unit_behind}
+use Rattle.connection_core.specs.Entering.{Enters, IsServing, LineCanAsk, stash_behind, unit_kept}
 use Rattle.connection_core.specs.Standing.{ReaderState, ReaderStands, end_in}
 use Rattle.connection_core.specs.Taking.{TakesAll, TakesBlock, PassesLines, IsLimit}
 
@@ -91,15 +92,15 @@ HasWords (step.Malformed at reason last) words = Unit {0}
 HasWords step.BatchTooLong words = Unit {0}
 
 -- how far the requests of lines were entered: the first k of them
-pub record EntersSoFar {Held : Type 0} (conn : ℕ) (asked : List Asked) (k : ℕ) (kept left : Option ℕ) (old new : List ℕ) (first desk : DeskState Held) : Type 0 where
+pub record EntersSoFar {Item Held : Type 0} (conn : ℕ) (asked : List Asked) (k : ℕ) (kept left : Option (Stash Item)) (old new : List ℕ) (first desk : DeskState Held) : Type 0 where
   pub done : List Acts
   pub requested : List ℕ
   pub entered : Enters conn done requested first desk
   pub places : new ≡ old ++ requested
-  pub acts : done ++ stored_for left (requests_of (drop k asked)) ≡ stored_for kept (requests_of asked)
+  pub acts : done ++ stored_for (unit_kept left) (requests_of (drop k asked)) ≡ stored_for (unit_kept kept) (requests_of asked)
   pub few : length done ≤ k
   pub few_places : length requested ≤ k
   pub as_many : length requested + length (requests_of (drop k asked)) ≡ length (requests_of asked)
-  pub left_is : unit_behind left (requests_of (drop k asked)) ≡ unit_behind kept (requests_of asked)
+  pub left_is : stash_behind left (requests_of (drop k asked)) ≡ stash_behind kept (requests_of asked)
   pub can : AllByRecursion (LineCanAsk first.seen.project) (drop k asked)
   pub serving : IsServing conn desk

@@ -6,7 +6,7 @@ ghost use Rattle.std.specs.List.{AllByRecursion};
 ghost use Rattle.registry_core.specs.Ledgers.{IsFull, entry};
 ghost use Rattle.registry_core.specs.Desks.{Adds, Looks, IsSound};
 ghost use Rattle.connection_core.specs.Asking.{entered_by, is_refused, requests_of, stored_for};
-ghost use Rattle.connection_core.specs.Entering.{as_entered, is_awaited, unit_kept, unit_left, Fits, CanAsk, LineCanAsk, IsServing, EntersLine, EntersSo, unit_behind};
+ghost use Rattle.connection_core.specs.Entering.{as_entered, is_awaited, unit_kept, stash_left, stash_behind, Fits, CanAsk, LineCanAsk, IsServing, EntersLine, EntersSo};
 
 use crate::asked::{Asked, is_refused};
 use registry_core::{Desk, Full};
@@ -63,7 +63,7 @@ where
     ensures full { IfErr result (λ full. IsFull (D.tells desk.new).seen 0 full) }
     ensures roomy { 1 ≤ (D.tells desk.old).room → IsOk result }
     ensures sound { IsSound (D.tells desk.new) }
-    ensures left { unit_kept stash.new ≡ unit_left (unit_kept stash.old) act }
+    ensures left { stash.new ≡ stash_left stash.old act }
     ensures fits { Fits (D.fits (D.tells desk.old).held) stash.new }
 {
     if !is_awaited(stash, act) {
@@ -95,7 +95,7 @@ where
     requires fits { Fits (D.fits (D.tells desk.old).held) stash.old }
     requires room { IsTrue (D.tells desk.old).metered → 1 ≤ (D.tells desk.old).room }
     requires places { vec_len places.old < vec_capacity places.old }
-    ensures entered { EntersLine result conn line (unit_kept stash.old) (unit_kept stash.new)
+    ensures entered { EntersLine result conn line stash.old stash.new
         places.old.items places.new.items (D.tells desk.old) (D.tells desk.new) }
     ensures roomy { 1 ≤ (D.tells desk.old).room → IsOk result }
     ensures sound { IsSound (D.tells desk.new) }
@@ -132,8 +132,7 @@ where
     ensures entered { (requested : List ℕ) × EntersSo result conn
         (stored_for (unit_kept stash.old) (requests_of asked.now)) requested
         (D.tells desk.old) (D.tells desk.new) × (places.new.items ≡ places.old.items ++ requested) }
-    ensures left { IfOk result (λ _. unit_kept stash.new
-        ≡ unit_behind (unit_kept stash.old) (requests_of asked.now)) }
+    ensures left { IfOk result (λ _. stash.new ≡ stash_behind stash.old (requests_of asked.now)) }
     ensures count { IfOk result (λ _. length places.new.items
         ≡ length places.old.items + length (requests_of asked.now)) }
     ensures roomy { length asked.now ≤ (D.tells desk.old).room → IsOk result }
@@ -167,6 +166,39 @@ fn enter_pause<D: Desk>(conn: u32, desk: &mut D) -> Result<(), Full>
     }
 }
 
+/// Enters the requests of lines and then a Pause, and notes the places of the requests.
+fn enter_and_pause<D: Desk>(
+    conn: u32,
+    asked: &[Asked],
+    stash: &mut Option<Stash<D::Item>>,
+    places: &mut Vec<u32>,
+    desk: &mut D,
+) -> Result<(), Full>
+where
+    D::Item: Drop,
+    requires serving { IsServing conn (D.tells desk.old) }
+    requires acts { AllByRecursion (LineCanAsk (D.tells desk.old).seen.project) asked.now }
+    requires fits { Fits (D.fits (D.tells desk.old).held) stash.old }
+    requires room { IsTrue (D.tells desk.old).metered
+        → length asked.now + 1 ≤ (D.tells desk.old).room }
+    requires places { vec_len places.old + length asked.now ≤ vec_capacity places.old }
+    ensures entered { (requested : List ℕ) × EntersSo result conn
+        (stored_for (unit_kept stash.old) (requests_of asked.now ++ Act.Pause ∷ [])) requested
+        (D.tells desk.old) (D.tells desk.new) × (places.new.items ≡ places.old.items ++ requested) }
+    ensures left { IfOk result (λ _. stash.new ≡ stash_behind stash.old (requests_of asked.now)) }
+    ensures count { IfOk result (λ _. is_refused asked.now ≡ false
+        → length places.new.items ≡ length places.old.items + length asked.now) }
+    ensures roomy { length asked.now + 1 ≤ (D.tells desk.old).room → IsOk result }
+    ensures serving { IsServing conn (D.tells desk.new) }
+    ensures fits { Fits (D.fits (D.tells desk.old).held) stash.new }
+    ensures capacity { vec_capacity places.new ≡ vec_capacity places.old }
+{
+    match enter_requests(conn, asked, stash, places, desk) {
+        Ok(()) => enter_pause(conn, desk),
+        Err(full) => Err(full),
+    }
+}
+
 /// Enters the requests of a block in order and then a Pause, or nothing where some line of it is malformed. It notes
 /// the places of the requests.
 pub(crate) fn enter_block<D: Desk>(
@@ -187,8 +219,7 @@ where
     ensures entered { (requested : List ℕ) × EntersSo result conn
         (stored_for (unit_kept stash.old) (entered_by asked.now)) requested
         (D.tells desk.old) (D.tells desk.new) × (places.new.items ≡ places.old.items ++ requested) }
-    ensures left { IfOk result (λ _. unit_kept stash.new
-        ≡ unit_behind (unit_kept stash.old) (entered_by asked.now)) }
+    ensures left { IfOk result (λ _. stash.new ≡ stash_behind stash.old (entered_by asked.now)) }
     ensures count { IfOk result (λ _. is_refused asked.now ≡ false
         → length places.new.items ≡ length places.old.items + length asked.now) }
     ensures refused { is_refused asked.now ≡ true → (desk.new ≡ desk.old) × IsOk result }
@@ -200,8 +231,5 @@ where
     if is_refused(asked) {
         return Ok(());
     }
-    match enter_requests(conn, asked, stash, places, desk) {
-        Ok(()) => enter_pause(conn, desk),
-        Err(full) => Err(full),
-    }
+    enter_and_pause(conn, asked, stash, places, desk)
 }

@@ -44,6 +44,7 @@ fn refuse_lines(asked: &[Asked], replies: &mut Vec<LineReply>)
     requires few { length asked.now ≤ 1024 }
     requires room { vec_len replies.old + length asked.now ≤ vec_capacity replies.old }
     ensures refused { replies.new.items ≡ replies.old.items ++ refusals asked.now }
+    ensures count { length replies.new.items ≡ length replies.old.items + length asked.now }
     ensures capacity { vec_capacity replies.new ≡ vec_capacity replies.old }
 {
     let first = first_malformed(asked);
@@ -61,6 +62,7 @@ fn look_at<D: Desk>(places: &[u32], desk: &mut D, replies: &mut Vec<LineReply>) 
         × (replies.new.items ≡ replies.old.items ++ given) }
     ensures missing { IfSome result (λ place. Contains places.now place
         × (reply_at (D.tells desk.new).seen place ≡ None)) }
+    ensures few { length replies.new.items ≤ length replies.old.items + length places.now }
     ensures looked { Looks (D.tells desk.old) (D.tells desk.new) }
     ensures sound { IsSound (D.tells desk.new) }
     ensures capacity { vec_capacity replies.new ≡ vec_capacity replies.old }
@@ -90,6 +92,7 @@ pub(crate) fn gather<D: Desk>(
         × (replies.new.items ≡ replies.old.items ++ given) }
     ensures missing { IfSome result (λ place. Contains places.now place
         × (reply_at (D.tells desk.new).seen place ≡ None)) }
+    ensures few { length replies.new.items ≤ length replies.old.items + length asked.now }
     ensures looked { Looks (D.tells desk.old) (D.tells desk.new) }
     ensures refused { is_refused asked.now ≡ true → (desk.new ≡ desk.old) × (result ≡ None) }
     ensures sound { IsSound (D.tells desk.new) }

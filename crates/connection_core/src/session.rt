@@ -1,6 +1,6 @@
 //! The session of one connection.
 
-ghost use Rattle.std.specs.Prelude.{◌≡◌, ◌≤◌, ◌+◌, List, ℕ, [], length, IfOk, None, Some, IsTrue, true};
+ghost use Rattle.std.specs.Prelude.{◌≡◌, ◌≢◌, ◌≤◌, ◌+◌, List, ℕ, [], length, IfOk, None, Some, IsTrue, true};
 ghost use Rattle.mm_outside.specs.Causes.{HasCause};
 ghost use Rattle.cody_batches.specs.Blocks.{held, most_octets};
 ghost use Rattle.unit_registry.specs.Projects.{ProjectView};
@@ -50,7 +50,7 @@ impl<I> Model for Session<I> {
     ghost view = { λ s. record { reader = s.reader; conn = s.conn; stash = s.stash; places = s.places.items } };
 
     ghost invariant = { λ s. IsPrepared s.reader.stage s.reader.asked s.places.items
-        (vec_capacity s.places) (vec_capacity s.replies) };
+        (vec_capacity s.places) (vec_capacity s.replies) s.lines };
 }
 
 impl<I> Session<I> {
@@ -69,7 +69,7 @@ impl<I> Session<I> {
         let reader = BlockReader::new(alloc)?;
         let places = Vec::with_capacity(alloc, MOST_LINES as usize)?;
         let replies = Vec::with_capacity(alloc, MOST_LINES as usize)?;
-        let lines = ReplyBuf::new(alloc)?;
+        let lines = ReplyBuf::new(alloc, MOST_LINES)?;
         Ok(Session {
             reader,
             conn: 0,
@@ -114,8 +114,9 @@ impl<I> Session<I> {
     /// # Ends
     ///
     /// `TooLong` exactly at octet 67,108,865 since `reset`, `BatchTooLong` exactly where line 1,025 of a block ends, and
-    /// `HistoryFull` where the desk has no room for an act, with its numbers; what comes first is answered. An end stays:
-    /// every later call but `reset` answers it, and enters and writes nothing.
+    /// `HistoryFull` where the desk has no room for an act, with its numbers, and never where it has room for the acts
+    /// of the block's lines and a Pause; what comes first is answered. An end stays: every later call but `reset`
+    /// answers it, and enters and writes nothing.
     pub fn take<D: Desk<Item = I>>(&mut self, project: &Project, piece: &[u8], desk: &mut D) -> Took
     where
         I: Drop,
@@ -133,6 +134,9 @@ impl<I> Session<I> {
             → EntersTook result self.old self.new (D.tells desk.old) (D.tells desk.new) }
         ensures nothing { ended self.old ≡ None → EntersNothing result self.new
             → desk.new ≡ desk.old }
+        ensures roomy { ended self.old ≡ None
+            → HasRoomFor self.old project.now piece.now (D.tells desk.old).room
+            → (entries reserved : ℕ) → result ≢ Took.Ended (ConnEnd.HistoryFull entries reserved) }
         ensures count { CountsTaken (length piece.now) result
             (octets_taken self.old) (octets_taken self.new) }
         ensures bound { ended self.old ≡ None → octets_taken self.new ≤ most_octets }
@@ -167,8 +171,8 @@ impl<I> Session<I> {
         }
     }
 
-    /// Writes the replies of the block that waits for them, by way of a buffer of lines, or answers the place of
-    /// a request that has no reply yet; then nothing is written. Where no block waits nothing is written.
+    /// Writes the replies of the block that waits for them, in one piece, or answers the place of a request that has no
+    /// reply yet; then nothing is written. Where no block waits nothing is written.
     ///
     /// # Ends
     ///

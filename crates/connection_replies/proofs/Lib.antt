@@ -1,2 +1,2 @@
-pub mod Outgoing
+pub mod Holding
 pub mod UnitNames

@@ -1,2 +1,2 @@
 pub mod ReplyLines
-pub mod Going
+pub mod Rooms

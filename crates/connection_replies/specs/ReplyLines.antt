@@ -49,6 +49,6 @@ abbrev pub reply_lines : ProjectView → List LineReply → List ℕ
 reply_lines project [] = []
 reply_lines project (reply ∷ rest) = reply_line project reply (not (length rest == 0)) ++ reply_lines project rest
 
--- the room that a line is given: that of the longest path, 2,100 octets
+-- the room that a line is given: three times the octets of the longest path, 2,100, and 64 more
 abbrev pub line_room : ℕ
 line_room = 6364

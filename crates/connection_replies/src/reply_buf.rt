@@ -1,13 +1,12 @@
 //! A buffer of reply lines, and the way from it to a link.
 
-ghost use Rattle.std.specs.Prelude.{◌≡◌, ◌≤◌, List, ℕ, [], Option, length, IfOk};
-ghost use Rattle.mm_outside.specs.Octets.{Octets};
+ghost use Rattle.std.specs.Prelude.{◌≡◌, ◌≤◌, [], length, IfOk};
 ghost use Rattle.mm_outside.specs.Told.{Told};
 ghost use Rattle.mm_outside.specs.Causes.{HasCause};
 ghost use Rattle.mm_outside.specs.Sending.{Sends};
 ghost use Rattle.cody_words.specs.Buffers.{Appends};
 ghost use Rattle.connection_replies.specs.ReplyLines.{line_room, reply_line, reply_lines};
-ghost use Rattle.connection_replies.specs.Going.{Flushes, GoesOut};
+ghost use Rattle.connection_replies.specs.Rooms.{HasSameRoom, HoldsLines, UsesRoom};
 
 use crate::line_reply::LineReply;
 use crate::writing::write_reply;
@@ -18,10 +17,7 @@ use std::alloc::Global;
 use std::marker::Model;
 use unit_registry::Project;
 
-/// The octets of reply lines that are kept before they are written (this project's own).
-const PAGE: u32 = 65_536;
-
-/// The room that a line is given: three times the octets of the longest path, and 64 more.
+/// The room that a line is given: three times the octets of the longest path, 2,100, and 64 more.
 const LINE_ROOM: u32 = 6364;
 
 /// A buffer of reply lines. Contracts see its octets and its spare room.
@@ -37,7 +33,7 @@ impl Model for ReplyBuf {
     ghost use Rattle.std.specs.Prelude.{◌≤◌, ◌+◌, length};
     ghost use Rattle.cody_words.specs.Buffers.{Buffer};
     ghost use Rattle.connection_replies.specs.ReplyLines.{line_room};
-    ghost use Rattle.connection_replies.specs.Going.{text_room};
+    ghost use Rattle.connection_replies.specs.Rooms.{text_room};
 
     ghost Value = { Buffer };
 
@@ -48,17 +44,20 @@ impl Model for ReplyBuf {
 }
 
 impl ReplyBuf {
-    /// An empty buffer. It takes all its memory here.
+    /// An empty buffer with room for so many lines, of 6,364 octets each: for the 1,024 lines of the longest block
+    /// 6,516,736 octets. It takes all its memory here.
     ///
     /// # Errors
     ///
     /// `Memory` where there is none.
-    pub fn new(alloc: Global) -> Result<ReplyBuf, Memory>
+    pub fn new(alloc: Global, lines: u32) -> Result<ReplyBuf, Memory>
+        requires some { 1 ≤ lines }
+        requires few { lines ≤ 1024 }
         ensures empty { IfOk result (λ buffer. buffer.octets ≡ []) }
-        ensures room { IfOk result (λ buffer. line_room ≤ buffer.spare) }
+        ensures room { IfOk result (λ buffer. HoldsLines lines buffer) }
     {
         Ok(ReplyBuf {
-            lines: LineBuf::new(alloc, PAGE)?,
+            lines: LineBuf::new(alloc, lines * LINE_ROOM)?,
             text: LineBuf::new(alloc, CMI_NAME_ROOM)?,
         })
     }
@@ -67,6 +66,7 @@ impl ReplyBuf {
     pub fn clear(&mut self)
         ensures empty { self.new.octets ≡ [] }
         ensures room { line_room ≤ self.new.spare }
+        ensures same { HasSameRoom self.old self.new }
     {
         self.lines.clear();
     }
@@ -81,65 +81,41 @@ impl ReplyBuf {
     /// Appends the line in which a line is answered, with the mark where `more` of its block follows.
     pub fn write(&mut self, project: &Project, reply: LineReply, more: bool)
         requires { line_room ≤ self.old.spare }
-        ensures { Appends self.old self.new (reply_line project.now reply more) }
+        ensures line { Appends self.old self.new (reply_line project.now reply more) }
+        ensures room { UsesRoom line_room self.old self.new }
     {
         write_reply(project, reply, more, &mut self.text, &mut self.lines);
     }
 
-    /// Writes the lines in which a block is answered to a link, by way of the buffer. After
-    /// `Failed` a proper prefix of them was written. What stood in the buffer before is forgotten.
+    /// Holds the lines in which a block is answered, and nothing else.
+    fn hold(&mut self, project: &Project, replies: &[LineReply])
+        requires { HoldsLines (length replies.now) self.old }
+        ensures lines { self.new.octets ≡ reply_lines project.now replies.now }
+        ensures same { HasSameRoom self.old self.new }
+    {
+        self.clear();
+        for (k, reply) in replies.iter().enumerate() {
+            self.write(project, *reply, k + 1 < replies.len());
+        }
+    }
+
+    /// Writes the lines in which a block is answered to a link, by way of the buffer, in one piece: the link decides
+    /// alone how many writes that takes. After `Failed` a proper prefix of them was written. What stood in the buffer
+    /// before is forgotten.
     pub fn send<L: Link>(
         &mut self,
         project: &Project,
         replies: &[LineReply],
         link: &mut L,
     ) -> Result<(), Failed>
+        requires { HoldsLines (length replies.now) self.old }
         ensures octets { Told (Sends result (reply_lines project.now replies.now))
             (L.octets link.old) (L.octets link.new) }
         ensures cause { HasCause (L.write_faults link.old) (L.write_faults link.new) result }
         ensures read_faults { L.read_faults link.new ≡ L.read_faults link.old }
+        ensures same { HasSameRoom self.old self.new }
     {
-        self.clear();
-        for (k, reply) in replies.iter().enumerate() {
-            if let Err(Failed) = self.make_room(link) {
-                return Err(Failed);
-            }
-            self.write(project, *reply, k + 1 < replies.len());
-        }
-        self.flush(link)
-    }
-
-    /// Writes what waits in the buffer, where there is no room for a further line.
-    fn make_room<L: Link>(&mut self, link: &mut L) -> Result<(), Failed>
-        ensures octets { (whole rest : List ℕ) (start : Option Octets)
-            → GoesOut whole rest self.old.octets start (L.octets link.old)
-            → Flushes result whole rest self.new.octets start (L.octets link.new) }
-        ensures room { IfOk result (λ _. line_room ≤ self.new.spare) }
-        ensures cause { HasCause (L.write_faults link.old) (L.write_faults link.new) result }
-        ensures read_faults { L.read_faults link.new ≡ L.read_faults link.old }
-    {
-        if self.lines.spare() >= LINE_ROOM {
-            return Ok(());
-        }
-        self.flush(link)
-    }
-
-    /// Writes what waits in the buffer.
-    fn flush<L: Link>(&mut self, link: &mut L) -> Result<(), Failed>
-        ensures octets { (whole rest : List ℕ) (start : Option Octets)
-            → GoesOut whole rest self.old.octets start (L.octets link.old)
-            → Flushes result whole rest [] start (L.octets link.new) }
-        ensures empty { IfOk result (λ _. self.new.octets ≡ []) }
-        ensures room { IfOk result (λ _. line_room ≤ self.new.spare) }
-        ensures cause { HasCause (L.write_faults link.old) (L.write_faults link.new) result }
-        ensures read_faults { L.read_faults link.new ≡ L.read_faults link.old }
-    {
-        match send(link, self.lines.octets()) {
-            Ok(()) => {
-                self.lines.clear();
-                Ok(())
-            }
-            Err(Failed) => Err(Failed),
-        }
+        self.hold(project, replies);
+        send(link, self.lines.octets())
     }
 }

@@ -4,7 +4,7 @@ ghost use Rattle.std.specs.Prelude.{◌≡◌, ◌+◌, ◌≤◌, length};
 ghost use Rattle.header_units.specs.CmiNames.{cmi_name};
 ghost use Rattle.unit_registry.specs.Projects.{name_of};
 ghost use Rattle.connection_replies.specs.ReplyLines.{malformed_text, refused_text};
-ghost use Rattle.connection_replies.specs.Going.{HasSameRoom, text_room};
+ghost use Rattle.connection_replies.specs.Rooms.{HasSameRoom, text_room};
 
 use cody_words::{LineBuf, Reason, write_number};
 use header_units::{BadName, Name};

@@ -6,7 +6,7 @@ ghost use Rattle.header_units.specs.CmiNames.{cmi_name};
 ghost use Rattle.mapper_replies.specs.Values as value;
 ghost use Rattle.unit_registry.specs.Projects.{name_of};
 ghost use Rattle.connection_replies.specs.ReplyLines.{answer_value, line_room, malformed_text, refused_text, reply_line, value_line};
-ghost use Rattle.connection_replies.specs.Going.{HasSameRoom, UsesRoom, text_room};
+ghost use Rattle.connection_replies.specs.Rooms.{HasSameRoom, UsesRoom, text_room};
 
 use crate::line_reply::LineReply;
 use crate::texts::{put_cmi_name, put_malformed, put_refused};

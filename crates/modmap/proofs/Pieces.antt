@@ -22,13 +22,12 @@ use Rattle.connection_core.specs.declared.conn_end.ConnEnd.{ConnEnd}
 use Rattle.connection_core.specs.declared.conn_end.ConnEnd.TheVariants.{Closed, Truncated, ReadFault, WriteFault, TooLong, BatchTooLong, HistoryFull}
 use Rattle.connection_core.specs.declared.conn_end.Took.{Took}
 use Rattle.connection_core.specs.declared.conn_end.Took.TheVariants as took
-use Rattle.connection_core.specs.declared.entering.Stash.{Stash}
 use Rattle.connection_core.specs.Asking.{Block, asked_of, block_acts, acts, entered_by, requests_of, is_refused, stored_for}
 use Rattle.connection_core.specs.Answers.{acts_of, request_places, block_answer, answers}
 use Rattle.connection_core.specs.Alone.{alone, solo, own_answers, stopped_behind}
 use Rattle.connection_core.specs.Ends.{Served, Whole, Stopped, Filled, AllRead, status_of, last_of, whole_course}
 use Rattle.connection_core.specs.Taking.{TakesBlock}
-use Rattle.connection_core.specs.Entering.{Enters, IsServing, unit_kept, unit_behind}
+use Rattle.connection_core.specs.Entering.{Enters, IsServing, unit_kept}
 use Rattle.connection_core.specs.Sessions.{SessionState, lines_of, acts_due, EntersTook, due}
 use Rattle.modmap.specs.Ladder.{so_far, Course, last_done, IsReady, TellsAll, IsAlone, Stands, Closes}
 use Rattle.modmap.proofs.Answering.{so_far-push, so_far_places, answers_stay, acts_behind, alone-append}
@@ -99,14 +98,6 @@ pub looks_same : {Held : Type 0} (before after : DeskState Held) → TellsAll be
 looks_same before after tells tells_after looks = same_history before after looks.since tells tells_after looks.places looks.history
 
 -- ---- a block was entered
-
-pub nothing_kept : {Item : Type 0} (stash : Option (Stash Item)) → unit_kept stash ≡ None → stash ≡ None
-nothing_kept None e = refl
-nothing_kept (Some kept) e = absurd cc
-
-pub none_behind : (asked : List Acts) → unit_behind None asked ≡ None
-none_behind [] = refl
-none_behind (first ∷ asked) = none_behind asked
 
 -- what was entered of a part of what is due
 pub part_entered : {Held : Type 0} (project : ProjectView) (conn : ℕ) (part : List Acts) (requested : List ℕ) (before after : DeskState Held) → conn ≡ 0 → TellsAll before → TellsAll after → (e : Enters conn part requested before after) → e.since ≡ alone part

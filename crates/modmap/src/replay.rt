@@ -420,7 +420,7 @@ fn print_replay<K: Sink>(
     ensures memory { OnErr result (out.new ≡ out.old) }
 {
     let mut held = Held::new(alloc)?;
-    let mut reply = ReplyBuf::new(alloc)?;
+    let mut reply = ReplyBuf::new(alloc, 1)?;
     let mut waiting = waiting_room(alloc, trace.entries.len())?;
     let mut book = book_for(alloc, project, trace)?;
     Ok(play_trace(

@@ -4,12 +4,12 @@ use Rattle.std.proofs.lemmas.List.{take-append-drop}
 use Rattle.mm_outside.proofs.ToldLemmas.{Told-map, Told-then}
 use Rattle.connection_core.specs.declared.conn_end.Took.TheVariants as took
 use Rattle.connection_core.specs.Standing.{end_in}
-use Rattle.connection_core.specs.Entering.{IsServing}
+use Rattle.connection_core.specs.Entering.{IsServing, stash_behind}
 use Rattle.connection_core.specs.Asking.{entered_by}
 use Rattle.connection_core.specs.Sessions.{RepliesSo, EndsReplying, lines_of}
 use Rattle.registry_core.specs.Alone.{told_alone}
 use Rattle.modmap.specs.Ladder.{IsAlone, Stands}
-use Rattle.modmap.proofs.Pieces.{Waits, alone_took, alone_looks, looks_same, block_waits, nothing_kept, none_behind}
+use Rattle.modmap.proofs.Pieces.{Waits, alone_took, alone_looks, looks_same, block_waits}
 use Rattle.modmap.proofs.Going.{goes_all, goes_block, goes_ended, goes_fault, stands_all, stands_fed, fed_of, answers_at_once}
 use Rattle.modmap.proofs.pipe.serve_piece.Goals as goal
 
@@ -88,7 +88,7 @@ loop-used-preserved g c =
     let fed_is = fed_of c.try_replies.result c.in_default.not-Ended no_wait in
     let replies = subst (λ r. RepliesSo r (told_alone g.S.Shelf.kept g.S.Shelf.held c.try_replies.new.desk).seen c.take.new.self (g.L.Link.octets c.loop-used.link) (g.L.Link.octets c.try_replies.new.link)) fed_is (c.try_replies.ensures.replies going) in
     let reading = subst (λ r. EndsReplying r c.take.new.self c.try_replies.new.self) fed_is c.try_replies.ensures.end in
-    let no_item = nothing_kept c.take.new.self.stash ((c.in-Block.ensures.entered ready.going).1 ∙ ap (λ kept. Rattle.connection_core.specs.Entering.unit_behind (Rattle.connection_core.specs.Entering.unit_kept kept) (entered_by (lines_of c.take.new.self))) ready.no_item ∙ none_behind (entered_by (lines_of c.take.new.self))) in
+    let no_item = (c.in-Block.ensures.entered ready.going).1 ∙ ap (λ kept. stash_behind kept (entered_by (lines_of c.take.new.self))) ready.no_item in
     record {
       within = omega (arith, c.in-Block.ensures.count.2, c.split_at.ensures.back_len, c.loop-used.invariant.within);
       ready = record {

@@ -1,7 +1,7 @@
 use Rattle.std.proofs.Common.{sym, ap, subst, ◌∙◌, refl, rules, arith}
 use Rattle.connection_core.specs.Standing.{ReaderStands}
 use Rattle.connection_core.proofs.Askable.{block_can}
-use Rattle.connection_core.proofs.Sessioning.{not_ended, reads_end, reads_nothing, block_room}
+use Rattle.connection_core.proofs.Sessioning.{not_ended, reads_end, reads_nothing, reads_not_full, block_room}
 use Rattle.connection_core.proofs.session.Session.take.Goals as goal
 
 pub enter_block-requires : goal.enter_block-requires
@@ -26,3 +26,12 @@ returns-in_default-read-clause-entered g c = λ going. reads_nothing c.read.resu
 
 pub returns-in_default-read-clause-end : goal.returns-in_default-read-clause-end
 returns-in_default-read-clause-end g c = reads_end c.read.result _ _ c.read.ensures.stage
+
+pub returns-in-Err-clause-roomy : goal.returns-in-Err-clause-roomy
+returns-in-Err-clause-roomy g c = λ going room entries reserved same.
+    let reader_is = ap (λ s. s.reader) c.self.view_is in
+    let no = c.in-Err.ensures.roomy (block_room c.args.self.now _ _ c.args.project.now c.args.piece.now _ c.in-Block.used _ reader_is room c.in-Block.ensures.took c.asked-asked.ensures.asked) in
+    cc no
+
+pub returns-in_default-read-clause-roomy : goal.returns-in_default-read-clause-roomy
+returns-in_default-read-clause-roomy g c = λ going room. reads_not_full c.read.result c.read.new.self.stage c.read.ensures.stage
