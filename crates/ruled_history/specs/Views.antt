@@ -162,8 +162,9 @@ pub record IsBare (view : View) : Type 0 where
   pub opened : view.opened ≡ 0
   pub dones : view.dones ≡ 0
 
--- What a joined seat keeps of one of the two: it has seen all that it had seen, and in that history the entries of its
--- connections stand at its places alone.
+-- What a joined seat keeps of one of the two: it has seen all that it had seen, where all its places stand, and in the
+-- whole history the entries of its connections stand at its places alone.
 pub record Keeps (part whole : View) : Type 0 where
   pub seen : StartsWith whole.seen part.seen
+  pub within : (place : ℕ) → Has place part.places → place < length part.seen
   pub own : (place : ℕ) (newest : Entry) → slice_get whole.seen place ≡ Some newest → Has newest.conn part.connections → Has place part.places
