@@ -54,8 +54,8 @@ counted_places p [] front = refl
 counted_places {A} p (x ∷ xs) front =
     let one_more : length front + 1 ≡ length (front ++ x ∷ []) = sym (length-append front (x ∷ [])) in
     let behind : count_by (λ (place : ℕ). option_map_or p (slice_get (front ++ x ∷ xs) place) false) (range_with_len (length front + 1) (length xs)) ≡ count_by p xs =
-        ap₂ (λ (ys : List A) (n : ℕ). count_by (λ (place : ℕ). option_map_or p (slice_get ys place) false) (range_with_len n (length xs))) (sym (append_assoc front (x ∷ []) xs)) one_more
-        ∙ counted_places p xs (front ++ x ∷ []) in
+    ap₂ (λ (ys : List A) (n : ℕ). count_by (λ (place : ℕ). option_map_or p (slice_get ys place) false) (range_with_len n (length xs))) (sym (append_assoc front (x ∷ []) xs)) one_more
+    ∙ counted_places p xs (front ++ x ∷ []) in
     let here : cond (option_map_or p (slice_get (front ++ x ∷ xs) (length front)) false) 1 0 ≡ cond (p x) 1 0 = ap (λ (o : Option A). cond (option_map_or p o false) 1 0) (slice_get_behind front (x ∷ xs) 0 (length front) (omega arith)) in
     sum_by-cons (λ (place : ℕ). cond (option_map_or p (slice_get (front ++ x ∷ xs) place) false) 1 0) (length front) (range_with_len (length front + 1) (length xs))
     ∙ (ap₂ (λ (one rest : ℕ). one + rest) here behind ∙ sym (sum_by-cons (λ (y : A). cond (p y) 1 0) x xs))

@@ -1,5 +1,5 @@
 -- What a connection has at a desk where it asks and then looks.
-use Rattle.std.proofs.Common.{◌≡◌, inr, ℕ, true, List, Contains, sym, subst, ◌∙◌}
+use Rattle.std.proofs.Common.{◌≡◌, inr, ℕ, true, Contains, ◌∙◌}
 use Rattle.histories.specs.declared.entry.Entry.{Entry}
 use Rattle.histories.specs.Counts.{Asks, effect_of}
 use Rattle.registry_core.specs.Ledgers.{is_open_in}
