@@ -1,11 +1,13 @@
 -- A desk that has a whole book, after a call.
-use Rattle.std.proofs.Common.{◌≡◌, ℕ, ◌+◌, ◌-◌, ◌<◌, ◌≤◌, Bool, true, false, ◌||◌, List, [], ◌∷◌, ◌++◌, length, All, Contains, get_or, Option, Some, None, is_some, IsFalse, refl, sym, ap, subst, ◌∙◌, arith, append-nil, length-append, true≢false}
+use Rattle.std.proofs.Common.{◌≡◌, ℕ, ◌+◌, ◌-◌, ◌<◌, ◌≤◌, Bool, true, false, cond, ◌||◌, List, [], ◌∷◌, ◌++◌, length, All, Contains, get_or, Option, Some, None, is_some, IsFalse, refl, sym, ap, ap₂, subst, ◌∙◌, arith, append-nil, append_assoc, length-append, true≢false}
 use Rattle.std.proofs.lemmas.Bool.{and_parts, and_right, or_right}
 use Rattle.std.proofs.lemmas.List.{map-id}
 use Rattle.std.proofs.lemmas.List.FromFn.{length-range_with_len, get_or-range_with_len, map-range_with_len_more}
 use Rattle.std.proofs.lemmas.Option.{slice_get_within, get_or_from_slice_get}
+use Rattle.std.proofs.lemmas.List.Sums.{sum_by-cons}
 use Rattle.std.specs.List.{range_with_len}
-use Rattle.std.specs.Prelude.{if◌then◌else◌, slice_get, Result, Ok, Err, IfOk, IfErr, IsOk}
+use Rattle.std.specs.Option.{option_map_or}
+use Rattle.std.specs.Prelude.{if◌then◌else◌, count_by, slice_get, Result, Ok, Err, IfOk, IfErr, IsOk}
 use Rattle.unit_registry.specs.declared.act.Act.{Act}
 use Rattle.unit_registry.specs.declared.act.Act.TheVariants.{Open}
 use Rattle.unit_registry.specs.Acts.{is_done, names}
@@ -16,7 +18,7 @@ use Rattle.histories.specs.Answered.{is_accepted, is_stored, stored_unit, stores
 use Rattle.histories.specs.Counts.{Effect, Opens, Asks, Goes, Ends, effect_of, ChangesOpened, ChangesReserved}
 use Rattle.histories.specs.Histories.{with_said, IsLegal}
 use Rattle.histories.proofs.Counting.{open_act, does_open}
-use Rattle.histories.proofs.LegalCounts.{numbers_below, counted_over, opened_with, open_with, done_with, reserved_with}
+use Rattle.histories.proofs.LegalCounts.{numbers_below, counted_over, done_over, opened_with, open_with, done_with, reserved_with}
 use Rattle.histories.proofs.Legality.{legal_one_more}
 use Rattle.histories.proofs.Steps.{opens_next}
 use Rattle.registry_core.specs.declared.full.Full.{Full}
@@ -25,6 +27,7 @@ use Rattle.registry_core.specs.Shelves.{ComesWith, kept_after}
 use Rattle.registry_core.specs.Desks.{DeskState, Looks, Adds, IsSound, connections_with, uses}
 use Rattle.registry_core.specs.Alone.{Alone, solo, told_alone, KeepsOn}
 use Rattle.registry_core.proofs.Keeping.{said_after}
+use Rattle.registry_core.proofs.Desks.{slice_get_behind}
 use Rattle.registry_core.proofs.Ready.{workers_in}
 
 -- ---- numbers in a row
@@ -45,6 +48,18 @@ range_within n k d below =
     let g : get_or (range_with_len 0 n) k d ≡ 0 + k = get_or-range_with_len 0 n k d (omega arith) in
     omega arith
 
+-- as many places have such an item as there are such items
+counted_places : {A : Type 0} (p : A → Bool) → (xs front : List A) → count_by (λ (place : ℕ). option_map_or p (slice_get (front ++ xs) place) false) (range_with_len (length front) (length xs)) ≡ count_by p xs
+counted_places p [] front = refl
+counted_places {A} p (x ∷ xs) front =
+    let one_more : length front + 1 ≡ length (front ++ x ∷ []) = sym (length-append front (x ∷ [])) in
+    let behind : count_by (λ (place : ℕ). option_map_or p (slice_get (front ++ x ∷ xs) place) false) (range_with_len (length front + 1) (length xs)) ≡ count_by p xs =
+    ap₂ (λ (ys : List A) (n : ℕ). count_by (λ (place : ℕ). option_map_or p (slice_get ys place) false) (range_with_len n (length xs))) (sym (append_assoc front (x ∷ []) xs)) one_more
+    ∙ counted_places p xs (front ++ x ∷ []) in
+    let here : cond (option_map_or p (slice_get (front ++ x ∷ xs) (length front)) false) 1 0 ≡ cond (p x) 1 0 = ap (λ (o : Option A). cond (option_map_or p o false) 1 0) (slice_get_behind front (x ∷ xs) 0 (length front) (omega arith)) in
+    sum_by-cons (λ (place : ℕ). cond (option_map_or p (slice_get (front ++ x ∷ xs) place) false) 1 0) (length front) (range_with_len (length front + 1) (length xs))
+    ∙ (ap₂ (λ (one rest : ℕ). one + rest) here behind ∙ sym (sum_by-cons (λ (y : A). cond (p y) 1 0) x xs))
+
 -- ---- what it tells of a legal history
 
 number_of : (entries : List Entry) (count place : ℕ) (newest : Entry) → All (λ e. IsFalse (is_done e.act) → e.conn < count) entries → slice_get entries place ≡ Some newest → IsFalse (is_done newest.act) → newest.conn < count
@@ -58,6 +73,7 @@ solo_sound kept held ledger l = record {
   own_places = λ place newest there own. in_range (length ledger.entries) place (slice_get_within ledger.entries place newest there);
   own_connections = λ place newest there own no_end. in_range (opened_in ledger) newest.conn (number_of ledger.entries (opened_in ledger) place newest (numbers_below ledger.project ledger.workers ledger.limit ledger.entries l.legal) there no_end);
   opened_is = counted_over ledger.project ledger.workers ledger.limit ledger.entries l.legal;
+  dones_is = done_over ledger.project ledger.workers ledger.entries ∙ sym (counted_places (λ (newest : Entry). is_done newest.act) ledger.entries []);
   enough = workers_in ledger l;
 }
 

@@ -112,24 +112,9 @@ looks_open before after was now looks conn own =
     open_at after.seen before.seen.project before.seen.workers (before.seen.entries ++ looks.since) looks.stays.project looks.stays.workers looks.history conn
     ∙ open_behind before.seen.project before.seen.workers conn before.seen.entries looks.since (looks_apart before after was now looks conn own)
 
-since_open : {Held : Type 0} (before after : DeskState Held) (newest : Entry) (place : ℕ) → IsSound before → IsSound after → (adds : Adds before newest place after) → (conn : ℕ) → Contains before.connections conn → is_open (answered_in before.seen.project before.seen.workers (before.seen.entries ++ adds.since)) conn ≡ is_open_in before.seen conn
-since_open before after newest place was now adds conn own =
-    open_behind before.seen.project before.seen.workers conn before.seen.entries adds.since (adds_apart before after newest place was now adds conn own)
-
 after_open : {Held : Type 0} (before after : DeskState Held) (newest : Entry) (place : ℕ) → (adds : Adds before newest place after) → (conn : ℕ) → is_open_in after.seen conn ≡ is_open (answered_in before.seen.project before.seen.workers ((before.seen.entries ++ adds.since) ++ newest ∷ [])) conn
 after_open before after newest place adds conn =
     open_at after.seen before.seen.project before.seen.workers ((before.seen.entries ++ adds.since) ++ newest ∷ []) adds.stays.project adds.stays.workers adds.history conn
-
--- so does an entry of another connection
-pub adds_other_open : {Held : Type 0} (before after : DeskState Held) (newest : Entry) (place : ℕ) → IsSound before → IsSound after → Adds before newest place after → (conn : ℕ) → Contains before.connections conn → newest.conn ≢ conn → is_open_in after.seen conn ≡ is_open_in before.seen conn
-adds_other_open before after newest place was now adds conn own other =
-    after_open before after newest place adds conn
-    ∙ open_behind before.seen.project before.seen.workers conn (before.seen.entries ++ adds.since) (newest ∷ []) (λ entry there. only entry there)
-    ∙ since_open before after newest place was now adds conn own
-  where
-    only : (entry : Entry) → In entry (newest ∷ []) → entry.conn ≢ conn
-    only entry (inl same) = subst (λ (e : Entry). e.conn ≢ conn) same other
-    only entry (inr none) = absurd none
 
 -- what an entry does to its own connection goes by the kind of its act
 pub adds_own_open : {Held : Type 0} (before after : DeskState Held) (newest : Entry) (place : ℕ) → IsSound after → (adds : Adds before newest place after) → ChangesOwn (effect_of newest.act) (is_open (answered_in before.seen.project before.seen.workers (before.seen.entries ++ adds.since)) newest.conn) (is_open_in after.seen newest.conn)
@@ -167,6 +152,7 @@ stays_further first second third s t = record {
   held = t.held ∙ s.held;
 }
 
+-- what any number of calls leave of a desk: none leaves all as it is, and more calls go on from there
 pub goes_on_same : {Held : Type 0} (desk : DeskState Held) → GoesOn desk desk
 goes_on_same desk = record { since = []; history = sym (append-nil desk.seen.entries); more_places = []; places = sym (append-nil desk.places); more_connections = []; connections = sym (append-nil desk.connections); stays = stays_same desk }
 
@@ -209,10 +195,6 @@ looks_further first second third s t = record {
 
 -- ---- what stays
 
--- an entry keeps its place
-pub entry_stays : {Held : Type 0} (before after : DeskState Held) → GoesOn before after → (place : ℕ) (entry : Entry) → slice_get before.seen.entries place ≡ Some entry → slice_get after.seen.entries place ≡ Some entry
-entry_stays before after goes place entry there = ap (λ (es : List Entry). slice_get es place) goes.history ∙ slice_get_before before.seen.entries goes.since place entry there
-
 -- an entry that the desk makes stands at its place
 pub adds_at : {Held : Type 0} (before after : DeskState Held) (newest : Entry) (place : ℕ) → Adds before newest place after → slice_get after.seen.entries place ≡ Some newest
 adds_at before after newest place adds =
@@ -224,11 +206,3 @@ pub reply_stays : {Held : Type 0} (before after : DeskState Held) → GoesOn bef
 reply_stays before after goes place answer there =
     reply_of after.seen before.seen.project before.seen.workers (before.seen.entries ++ goes.since) goes.stays.project goes.stays.workers goes.history place
     ∙ replies_stay before.seen.project before.seen.workers before.seen.entries goes.since place answer there
-
--- an own place stays one
-pub places_stay : {Held : Type 0} (before after : DeskState Held) → GoesOn before after → (place : ℕ) → Contains before.places place → Contains after.places place
-places_stay before after goes place own = subst (λ (ps : List ℕ). Contains ps place) (sym goes.places) (Contains-append_left before.places goes.more_places place own)
-
--- an own connection stays one
-pub connections_stay : {Held : Type 0} (before after : DeskState Held) → GoesOn before after → (conn : ℕ) → Contains before.connections conn → Contains after.connections conn
-connections_stay before after goes conn own = subst (λ (cs : List ℕ). Contains cs conn) (sym goes.connections) (Contains-append_left before.connections goes.more_connections conn own)

@@ -1,5 +1,6 @@
 -- What a desk tells, and what its calls change of it.
-use Rattle.std.specs.Prelude.{◌≡◌, ℕ, ◌+◌, ◌-◌, ◌<◌, ◌≤◌, Bool, ◌||◌, List, [], ◌∷◌, ◌++◌, length, All, Contains, count_by, slice_get, Some, IsFalse}
+use Rattle.std.specs.Prelude.{◌≡◌, ℕ, ◌+◌, ◌-◌, ◌<◌, ◌≤◌, Bool, false, ◌||◌, List, [], ◌∷◌, ◌++◌, length, All, Contains, count_by, slice_get, Some, IsFalse}
+use Rattle.std.specs.Option.{option_map_or}
 use Rattle.unit_registry.specs.Acts.{is_done}
 use Rattle.histories.specs.declared.entry.Entry.{Entry}
 use Rattle.histories.specs.Counts.{Effect, Opens, Asks, effect_of, ChangesOpen, ChangesDone}
@@ -70,15 +71,20 @@ pub record Adds {Held : Type 0} (before : DeskState Held) (newest : Entry) (plac
   pub room : after.room ≡ before.room - uses (effect_of newest.act)
   pub stays : Stays before after
 
+-- whether the entry at the place is a Done
+abbrev pub is_done_at : List Entry → ℕ → Bool
+is_done_at entries place = option_map_or (λ newest. is_done newest.act) (slice_get entries place) false
+
 -- What holds of a desk: its history is legal; all entries of its connections stand at its own places, and each entry at
--- those but a Done is of one of its connections; as many of its connections are open as it tells; and it has a worker for
--- each of them and for each that it has ended.
+-- those but a Done is of one of its connections; as many of its connections are open as it tells, and as many of the
+-- entries at its own places are a Done; and it has a worker for each of them and for each that it has ended.
 pub record IsSound {Held : Type 0} (desk : DeskState Held) : Type 0 where
   pub ledger : IsLedger desk.seen
   pub places_within : All (λ place. place < length desk.seen.entries) desk.places
   pub own_places : (place : ℕ) (newest : Entry) → slice_get desk.seen.entries place ≡ Some newest → Contains desk.connections newest.conn → Contains desk.places place
   pub own_connections : (place : ℕ) (newest : Entry) → slice_get desk.seen.entries place ≡ Some newest → Contains desk.places place → IsFalse (is_done newest.act) → Contains desk.connections newest.conn
   pub opened_is : desk.opened ≡ count_by (is_open_in desk.seen) desk.connections
+  pub dones_is : desk.dones ≡ count_by (is_done_at desk.seen.entries) desk.places
   pub enough : desk.opened + desk.dones ≤ desk.share
 
 -- whether the desk knows an item of the unit: it was kept at the start, or is stored in the history seen

@@ -1,6 +1,6 @@
 -- The rule at the start, and what it says of a seat with all worker numbers.
-use Rattle.std.proofs.Common.{◌≡◌, ℕ, zero, suc, ◌+◌, ◌-◌, ◌<◌, ◌≤◌, Bool, true, false, nat_lt, List, [], ◌∷◌, ◌++◌, length, Some, IsTrue, IsFalse, refl, sym, ap, subst, ◌∙◌, inl, inr, arith, append-nil, length-append, ltb-false}
-use Rattle.std.specs.Prelude.{Option, if◌then◌else◌}
+use Rattle.std.proofs.Common.{◌≡◌, ℕ, zero, suc, ◌≢◌, ◌+◌, ◌-◌, ◌<◌, ◌≤◌, Bool, true, false, nat_lt, List, [], ◌∷◌, ◌++◌, length, Some, IsTrue, IsFalse, refl, sym, ap, subst, ◌∙◌, inl, inr, arith, append-nil, length-append, ltb-false}
+use Rattle.std.specs.Prelude.{Option, sum_by, if◌then◌else◌}
 use Rattle.std.proofs.lemmas.List.Elements.{All-nil}
 use mathlib.Core.Logic.{dite}
 use mathlib.Core.Option.{some, some-injective, some-ne-none}
@@ -15,8 +15,8 @@ use Rattle.ruled_history.specs.declared.board.View.{View}
 use Rattle.ruled_history.specs.declared.board.Stage.TheVariants.{Idle, Serves}
 use Rattle.ruled_history.specs.Runs.{StartsWith, AreAllPlaces, once_below, made_at}
 use Rattle.ruled_history.specs.Rule.{SeatFits, SlotFits}
-use Rattle.ruled_history.specs.Views.{with_entries, tickets_at, tickets, share_of, first_view}
-use Rattle.ruled_history.proofs.Counts.{sum_two, made_all}
+use Rattle.ruled_history.specs.Views.{with_entries, tickets_at, tickets, share_of, first_view, spent}
+use Rattle.ruled_history.proofs.Counts.{sum_two, sum_alone, made_all}
 use Rattle.ruled_history.proofs.Histories.{all_got}
 use Rattle.ruled_history.proofs.Turning.{Rule}
 
@@ -115,3 +115,14 @@ module _ {B : Type 0} (Stands : B → List Entry → Type 0) (metered : Bool) (o
   all_seen s r id v at some_worker all =
       let ok = r.each_seat id v at in
       none_behind r.entries v.seen ok.begins (none_from (length v.seen) (length r.entries) (sym (ok.early (length v.seen) (omega arith)) ∙ all_places s r id v at some_worker all (length v.seen)))
+
+  -- all others are spent
+  spent_others : (s : State (Option B) View) (r : Rule Stands metered opening s) (id : ℕ) (v : View) → get_elem? s.views id ≡ some v → v.share ≡ opening.workers → (j : ℕ) (u : View) → j ≢ id → get_elem? s.views j ≡ some u → u ≡ spent
+  spent_others s r id v at all j u ne at_j =
+      let two = sum_two share_of s.views j id u v ne at_j at in let sum = r.shares in
+      let none_left : u.share ≡ 0 = omega arith in
+      (r.each_seat j u at_j).some_share none_left
+
+  -- and so the sum of all seats is its own
+  pub all_own : (f : View → ℕ) → f spent ≡ 0 → (s : State (Option B) View) (r : Rule Stands metered opening s) (id : ℕ) (v : View) → get_elem? s.views id ≡ some v → v.share ≡ opening.workers → sum_by f s.views ≡ f v
+  all_own f none_spent s r id v at all = sum_alone f s.views id v at (λ j u ne at_j. ap f (spent_others s r id v at all j u ne at_j) ∙ none_spent)

@@ -39,6 +39,17 @@ module _ {A : Type 0} where
   sum_two f (x ∷ xs) (suc i) zero v w ne e d = omega (arith, sum_by-cons f x xs, ap f (some-injective x w d), sum_at f xs i v e)
   sum_two f (x ∷ xs) (suc i) (suc j) v w ne e d = omega (arith, sum_by-cons f x xs, sum_two f xs i j v w (λ h. ne (ap suc h)) e d)
 
+  sum_none : (f : A → ℕ) (xs : List A) → ((i : ℕ) (x : A) → get_elem? xs i ≡ some x → f x ≡ 0) → sum_by f xs ≡ 0
+  sum_none f [] none = refl
+  sum_none f (x ∷ xs) none = omega (arith, sum_by-cons f x xs, none 0 x refl, sum_none f xs (λ i y at. none (suc i) y at))
+
+  -- where all others have none, one has all
+  pub sum_alone : (f : A → ℕ) (xs : List A) (i : ℕ) (v : A) → get_elem? xs i ≡ some v → ((j : ℕ) (x : A) → j ≢ i → get_elem? xs j ≡ some x → f x ≡ 0) → sum_by f xs ≡ f v
+  sum_alone f [] i v at none = absurd (some-ne-none v (sym at))
+  sum_alone f (x ∷ xs) zero v at none = omega (arith, sum_by-cons f x xs, ap f (some-injective x v at), sum_none f xs (λ j y at_j. none (suc j) y (λ same. absurd (omega arith)) at_j))
+  sum_alone f (x ∷ xs) (suc i) v at none =
+      omega (arith, sum_by-cons f x xs, none 0 x (λ same. absurd (omega arith)) refl, sum_alone f xs i v at (λ j y ne at_j. none (suc j) y (λ same. let less : j ≡ i = omega arith in ne less) at_j))
+
   pub sum_both : (f g h : A → ℕ) (xs : List A) → ((x : A) → h x ≡ f x + g x) → sum_by h xs ≡ sum_by f xs + sum_by g xs
   sum_both f g h [] both = refl
   sum_both f g h (x ∷ xs) both = omega (arith, sum_by-cons f x xs, sum_by-cons g x xs, sum_by-cons h x xs, both x, sum_both f g h xs both)

@@ -13,12 +13,13 @@ use Rattle.histories.specs.declared.entry.Entry.{Entry}
 use Rattle.histories.specs.Entries.{no_connection}
 use Rattle.registry_core.specs.Ledgers.{LedgerView, IsLedger, is_open_in}
 use Rattle.registry_core.proofs.Desks.{slice_get_behind, slice_get_before}
+use Rattle.registry_core.specs.Desks.{is_done_at}
 use Rattle.ruled_history.specs.declared.board.View.{View}
 use Rattle.ruled_history.specs.declared.board.Stage.{Stage}
 use Rattle.ruled_history.specs.declared.board.Stage.TheVariants.{Idle, Waits, Serves}
 use Rattle.ruled_history.specs.Runs.{StartsWith, Has}
 use Rattle.ruled_history.specs.Rule.{HasTurn, SeatFits, SlotFits}
-use Rattle.ruled_history.specs.Views.{with_entries, tickets_at, is_done_at, spent, at_stage, sees, Knows}
+use Rattle.ruled_history.specs.Views.{with_entries, tickets_at, spent, at_stage, sees, Knows}
 use Rattle.ruled_history.proofs.Counts.{in_list, begins_all, begins_trans, begins_whole, count_same, made_past, made_le, made_none}
 use Rattle.ruled_history.proofs.Histories.{ledger_front, open_since, all_front, few_opened}
 use Rattle.ruled_history.proofs.OwnEntries.{dones_stay}

@@ -25,10 +25,14 @@ no_done opening view knows place e at has = by (is_done e.act) refl
         absurd (omega arith)
 
 module _ (opening : LedgerView) (v w : View) (kv : Knows opening v) (kw : Knows opening w) (both : Knows opening (joined v w)) where
+  within_seen : (u : View) → Knows opening u → (place : ℕ) → Has place u.places → place < length u.seen
+  within_seen u ku place has = dite (dec_lt place (length u.seen)) (λ lt. lt) (λ late. absurd (let none_late = ku.early place (omega arith) in omega arith))
+
   pub keeps_left : Keeps v (joined v w)
   keeps_left =
       let begins = longer_both v.seen w.seen (nat_lt (length v.seen) (length w.seen)) both.heard in record {
         seen = begins.0;
+        within = within_seen v kv;
         own = λ place e at has. ⊎_elim (λ here. here)
             (λ there.
             let early : place < length w.seen = dite (dec_lt place (length w.seen)) (λ lt. lt) (λ late. absurd (let none_late = kw.early place (omega arith) in omega arith)) in
@@ -43,6 +47,7 @@ module _ (opening : LedgerView) (v w : View) (kv : Knows opening v) (kw : Knows 
   keeps_right =
       let begins = longer_both v.seen w.seen (nat_lt (length v.seen) (length w.seen)) both.heard in record {
         seen = begins.1;
+        within = within_seen w kw;
         own = λ place e at has. ⊎_elim
             (λ there.
             let early : place < length v.seen = dite (dec_lt place (length v.seen)) (λ lt. lt) (λ late. absurd (let none_late = kv.early place (omega arith) in omega arith)) in

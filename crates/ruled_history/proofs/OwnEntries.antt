@@ -10,12 +10,12 @@ use Rattle.histories.specs.Entries.{no_connection}
 use Rattle.histories.specs.Counts.{Effect, Opens, Asks, Goes, Ends, effect_of, ChangesOwn, MayCome}
 use Rattle.histories.specs.Histories.{noted_of}
 use Rattle.registry_core.specs.Ledgers.{LedgerView, IsLedger, Passes, is_open_in, opened_in}
-use Rattle.registry_core.specs.Desks.{connections_with, uses}
+use Rattle.registry_core.specs.Desks.{connections_with, uses, is_done_at}
 use Rattle.registry_core.proofs.Desks.{slice_get_behind}
 use Rattle.ruled_history.specs.declared.board.View.{View}
 use Rattle.ruled_history.specs.Runs.{times, Has}
 use Rattle.ruled_history.specs.Rule.{SeatFits}
-use Rattle.ruled_history.specs.Views.{with_entries, is_done_at, opened_after, dones_after, MayAddBy}
+use Rattle.ruled_history.specs.Views.{with_entries, opened_after, dones_after, MayAddBy}
 use Rattle.ruled_history.proofs.Counts.{one_if, count_same, count-append, count_one, count_less, has_left, has_snoc, has_last, once_snoc}
 use Rattle.histories.proofs.Counting.{does_end, done_act}
 use Rattle.ruled_history.proofs.Histories.{opens, goes, ends, own_more, may_enter, open_other, few_opened}

@@ -11,11 +11,12 @@ use Rattle.atomic_table.specs.Table.{Splits, Joins}
 use Rattle.atomic_table.proofs.Lists.{at_set, set_else, at_longer}
 use Rattle.histories.specs.declared.entry.Entry.{Entry}
 use Rattle.registry_core.specs.Ledgers.{LedgerView, is_open_in}
+use Rattle.registry_core.specs.Desks.{is_done_at}
 use Rattle.ruled_history.specs.declared.board.View.{View}
 use Rattle.ruled_history.specs.declared.board.Stage.TheVariants.{Idle}
 use Rattle.ruled_history.specs.Runs.{times, made_at}
 use Rattle.ruled_history.specs.Rule.{HasTurn, SeatFits, RoomFits}
-use Rattle.ruled_history.specs.Views.{with_entries, tickets_at, tickets, share_of, opened_of, dones_of, room_of, is_done_at, rest_of, cut_off, longer, joined, spent, Knows, IsBare}
+use Rattle.ruled_history.specs.Views.{with_entries, tickets_at, tickets, share_of, opened_of, dones_of, room_of, rest_of, cut_off, longer, joined, spent, Knows, IsBare}
 use Rattle.ruled_history.proofs.Counts.{sum_set, begins_length, times-append, made_join, made_le, longer_begins, count_same, count-append, has_left, has_right, has_either, once_joined, at_end, append_none}
 use Rattle.ruled_history.proofs.Fitting.{seats_set, grown, dones_grown, spent_fits, longest_kept, longest_joined, slot_longer, slot_kept}
 use Rattle.ruled_history.proofs.Turning.{Rule, Fits}

@@ -42,6 +42,7 @@ told_sound kept held desk knows = record {
   own_places = λ place newest at has. contains_had place desk.seat.knows.places (knows.own_places place newest at (has_contained newest.conn desk.seat.knows.connections has));
   own_connections = λ place newest at has not_end. contains_had newest.conn desk.seat.knows.connections (knows.own_connections place newest at (has_contained place desk.seat.knows.places has) not_end);
   opened_is = knows.opened_is;
+  dones_is = knows.dones_is;
   enough = knows.enough;
 }
 

@@ -1,21 +1,22 @@
 -- What a turn tells, put together from its steps.
-use Rattle.std.proofs.Common.{◌≡◌, Bool, ℕ, ◌+◌, ◌%◌, ◌^◌, ◌<◌, length, ◌∷◌, ◌++◌, List, [], Some, None, sym, ap, subst, ◌∙◌}
+use Rattle.std.proofs.Common.{◌≡◌, Bool, ℕ, ◌+◌, ◌%◌, ◌^◌, ◌<◌, length, ◌∷◌, ◌++◌, List, [], Some, None, refl, sym, ap, subst, ◌∙◌}
 use Rattle.std.specs.Prelude.{Option}
 use mathlib.Core.Option.{some, none, some-injective}
 use lib.ListN.{get_elem?}
 use Rattle.atomic_table.specs.Table.{State, Me, step, rest, Allows, Final, Seen}
 use Rattle.histories.specs.declared.entry.Entry.{Entry}
-use Rattle.registry_core.specs.Ledgers.{LedgerView, Passes}
+use Rattle.registry_core.specs.Ledgers.{LedgerView, Passes, open_in, done_in}
 use Rattle.ruled_history.specs.declared.board.View.{View}
 use Rattle.ruled_history.specs.declared.board.Stage.TheVariants.{Idle, Waits, Serves}
 use Rattle.ruled_history.specs.Runs.{StartsWith, AreAllPlaces}
 use Rattle.ruled_history.specs.Rule.{Ruled}
 use Rattle.ruled_history.specs.Steps.{AtTurn, drew, Served, looked, recorded, passed}
-use Rattle.ruled_history.specs.Views.{with_entries, sees, at_stage, Knows, MayAdd}
+use Rattle.ruled_history.specs.Views.{with_entries, opened_of, dones_of, sees, at_stage, Knows, MayAdd}
 use Rattle.ruled_history.specs.Seats.{IsServing}
 use Rattle.ruled_history.proofs.Turning.{Rule, draws, looks, passes}
 use Rattle.ruled_history.proofs.Recording.{records}
-use Rattle.ruled_history.proofs.Closing.{all_home, all_places, all_seen}
+use Rattle.ruled_history.proofs.Closing.{all_home, all_places, all_seen, all_own}
+use Rattle.ruled_history.proofs.Fitting.{known}
 
 -- ---- the steps, for a seat whose view and slots are known by equations
 
@@ -70,16 +71,19 @@ module _ {B : Type 0} where
       }
 
 -- what the close tells
-pub record Ended {B : Type 0} (Stands : B → List Entry → Type 0) (v : View) (x : Option B) : Type 0 where
+pub record Ended {B : Type 0} (Stands : B → List Entry → Type 0) (opening : LedgerView) (v : View) (x : Option B) : Type 0 where
   pub book : B
   pub entries : List Entry
   pub is : x ≡ Some book
   pub stands : Stands book entries
   pub seen : entries ≡ v.seen
   pub places : AreAllPlaces v.places (length entries)
+  pub opened : open_in (with_entries opening entries) ≡ v.opened
+  pub dones : done_in (with_entries opening entries) ≡ v.dones
+  pub knows : Knows opening v
 
 pub ended : {B : Type 0} (Stands : B → List Entry → Type 0) (metered : Bool) (opening : LedgerView) (id : ℕ) (v : View) (words : List ℕ) (xs : List (Option B)) (x : Option B) → Final (Seen (Ruled Stands metered opening) id v) words xs
-    → v.stage ≡ Idle → v.share ≡ opening.workers → 0 < opening.workers → get_elem? xs 0 ≡ some x → Ended Stands v x
+    → v.stage ≡ Idle → v.share ≡ opening.workers → 0 < opening.workers → get_elem? xs 0 ≡ some x → Ended Stands opening v x
 ended {B} Stands metered opening id v words xs x final idle all some_worker at =
     let s : State (Option B) View = final.0 in
     let r : Ruled Stands metered opening s = final.1.0 in
@@ -92,4 +96,7 @@ ended {B} Stands metered opening id v words xs x final idle all some_worker at =
       stands = home.2;
       seen = all_seen Stands metered opening s r id v here some_worker all;
       places = all_places Stands metered opening s r id v here some_worker all;
+      opened = sym r.opened ∙ all_own Stands metered opening opened_of refl s r id v here all;
+      dones = sym r.dones ∙ all_own Stands metered opening dones_of refl s r id v here all;
+      knows = known opening r.entries r.makers r.owner r.belongs id v (r.each_seat id v here) r.ledger r.of_nobody;
     }

@@ -10,11 +10,12 @@ use Rattle.unit_registry.specs.Acts.{is_done}
 use Rattle.histories.specs.declared.entry.Entry.{Entry}
 use Rattle.histories.specs.Entries.{no_connection}
 use Rattle.registry_core.specs.Ledgers.{LedgerView, IsLedger, is_open_in, opened_in, open_in, done_in, reserved_in}
+use Rattle.registry_core.specs.Desks.{is_done_at}
 use Rattle.ruled_history.specs.declared.board.View.{View}
 use Rattle.ruled_history.specs.declared.board.Stage.{Stage}
 use Rattle.ruled_history.specs.declared.board.Stage.TheVariants.{Idle, Waits, Serves}
 use Rattle.ruled_history.specs.Runs.{StartsWith, times, Has, made_at}
-use Rattle.ruled_history.specs.Views.{with_entries, tickets, share_of, opened_of, dones_of, room_of, is_done_at, spent}
+use Rattle.ruled_history.specs.Views.{with_entries, tickets, share_of, opened_of, dones_of, room_of, spent}
 
 -- A ticket that is out is one from those served up to those drawn, and one seat has it. The seat that is served has the
 -- slot, which isn't at home then, and has seen the whole history.

@@ -1,12 +1,11 @@
 -- What a seat knows, and what each step makes of it.
-use Rattle.std.specs.Prelude.{◌≡◌, ℕ, ◌+◌, ◌-◌, ◌<◌, ◌≤◌, nat_lt, Bool, false, List, [], ◌∷◌, ◌++◌, length, All, count_by, slice_get, Some, IsTrue, IsFalse, if◌then◌else◌}
-use Rattle.std.specs.Option.{option_map_or}
+use Rattle.std.specs.Prelude.{◌≡◌, ℕ, ◌+◌, ◌-◌, ◌<◌, ◌≤◌, nat_lt, Bool, List, [], ◌∷◌, ◌++◌, length, All, count_by, slice_get, Some, IsTrue, IsFalse, if◌then◌else◌}
 use Rattle.unit_registry.specs.Acts.{is_done}
 use Rattle.histories.specs.declared.entry.Entry.{Entry}
 use Rattle.histories.specs.Entries.{no_connection}
 use Rattle.histories.specs.Counts.{Effect, Opens, Asks, Goes, Ends, effect_of}
 use Rattle.registry_core.specs.Ledgers.{LedgerView, IsLedger, is_open_in}
-use Rattle.registry_core.specs.Desks.{connections_with, uses}
+use Rattle.registry_core.specs.Desks.{connections_with, uses, is_done_at}
 use Rattle.ruled_history.specs.declared.board.View.{View}
 use Rattle.ruled_history.specs.declared.board.Stage.{Stage}
 use Rattle.ruled_history.specs.declared.board.Stage.TheVariants.{Idle, Waits, Serves}
@@ -41,10 +40,6 @@ dones_of view = view.dones
 -- how many kept entries the seat has
 abbrev pub room_of : View → ℕ
 room_of view = view.room
-
--- whether the entry at the place is a Done
-abbrev pub is_done_at : List Entry → ℕ → Bool
-is_done_at entries place = option_map_or (λ newest. is_done newest.act) (slice_get entries place) false
 
 -- the view of the first seat: all workers are its, and this room
 abbrev pub first_view : ℕ → ℕ → View
@@ -162,8 +157,9 @@ pub record IsBare (view : View) : Type 0 where
   pub opened : view.opened ≡ 0
   pub dones : view.dones ≡ 0
 
--- What a joined seat keeps of one of the two: it has seen all that it had seen, and in that history the entries of its
--- connections stand at its places alone.
+-- What a joined seat keeps of one of the two: it has seen all that it had seen, where all its places stand, and in the
+-- whole history the entries of its connections stand at its places alone.
 pub record Keeps (part whole : View) : Type 0 where
   pub seen : StartsWith whole.seen part.seen
+  pub within : (place : ℕ) → Has place part.places → place < length part.seen
   pub own : (place : ℕ) (newest : Entry) → slice_get whole.seen place ≡ Some newest → Has newest.conn part.connections → Has place part.places

@@ -2,6 +2,7 @@
 
 ghost use Rattle.std.specs.Prelude.{◌≡◌, ◌+◌, ◌<◌, ◌≤◌, [], ◌∷◌, ℕ, IfOk, length};
 ghost use Rattle.registry_core.specs.Books.{BookView};
+ghost use Rattle.registry_core.specs.Ledgers.{open_in, done_in};
 ghost use Rattle.ruled_history.specs.declared.board.Stage.TheVariants.{Idle};
 ghost use Rattle.ruled_history.specs.declared.board.View.{View};
 ghost use Rattle.ruled_history.specs.Runs.{AreAllPlaces};
@@ -131,13 +132,16 @@ impl<S: Shelf + Drop> Registry<S> {
     }
 
     /// The book, once a seat has the run of all workers, and so is the only one. Its entries are all that the seat had
-    /// seen, and the seat's places are those of all of them. It is the book that the registry was made of, after these
-    /// entries.
+    /// seen, and the seat's places are those of all of them; so many of its connections are open and so many workers are
+    /// done as the seat tells. It is the book that the registry was made of, after these entries.
     pub fn close(self, seat: Seat) -> Book<S>
         requires seat { seat.registry ≡ self.name }
         requires share { seat.knows.share ≡ self.opening.ledger.workers }
         ensures seen { result.ledger.entries ≡ seat.knows.seen }
         ensures places { AreAllPlaces seat.knows.places (length result.ledger.entries) }
+        ensures opened { open_in result.ledger ≡ seat.knows.opened }
+        ensures dones { done_in result.ledger ≡ seat.knows.dones }
+        ensures knows { Knows self.opening.ledger seat.knows }
         ensures book { StandsAfter S.kept S.held self.opening result result.ledger.entries }
     {
         let Seat { badge } = seat;

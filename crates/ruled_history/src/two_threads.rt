@@ -66,7 +66,7 @@ fn serve<D: Desk<Item = ()>>(alloc: Global, desk: &mut D, count: u32) -> Option<
     Some(Told { conn, places })
 }
 
-/// HasOpen at a seat.
+/// Serves at a seat.
 fn serve_seat<R: Wait>(
     rt: &R,
     alloc: Global,
@@ -85,7 +85,7 @@ fn serve_seat<R: Wait>(
     Some((desk.into_seat(), told))
 }
 
-/// HasOpen at both seats at once.
+/// Serves at both seats at once.
 fn run_both<R: Threads + Wait + Sync>(
     rt: &R,
     alloc: Global,
@@ -120,7 +120,7 @@ fn run_both<R: Threads + Wait + Sync>(
     )
 }
 
-/// HasOpen at both seats at once, and joins the seats.
+/// Serves at both seats at once, and joins the seats.
 fn serve_both<R: Threads + Wait + Sync>(
     rt: &R,
     alloc: Global,

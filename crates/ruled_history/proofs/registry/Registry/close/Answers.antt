@@ -1,10 +1,12 @@
 use Rattle.std.proofs.Common.{rules, ◌≡◌, List, length, sym, ap, subst, ◌∙◌}
 use Rattle.histories.specs.declared.entry.Entry.{Entry}
 use Rattle.registry_core.specs.Books.{BookView}
+use Rattle.registry_core.specs.Ledgers.{LedgerView, open_in, done_in}
 use Rattle.ruled_history.specs.declared.board.Stage.TheVariants.{Idle}
 use Rattle.ruled_history.specs.declared.board.View.{View}
 use Rattle.ruled_history.specs.Runs.{AreAllPlaces}
 use Rattle.ruled_history.specs.Seats.{Shared, StandsAfter}
+use Rattle.ruled_history.specs.Views.{Knows}
 use Rattle.ruled_history.proofs.Turns.{ended}
 use Rattle.ruled_history.proofs.registry.Registry.close.Goals as goal
 
@@ -31,5 +33,8 @@ returns g c =
     record {
       seen = sym entries ∙ did.seen ∙ ap (λ (x : View). x.seen) known;
       places = subst (λ (x : List Entry × View). AreAllPlaces x.1.places (length x.0)) (λ i. (entries i, known i)) did.places;
+      opened = ap (λ (b : BookView g.row.S.Denot). open_in b.ledger) (sym same) ∙ ap (λ (l : LedgerView). open_in l) did.stands.is_ledger ∙ did.opened ∙ ap (λ (x : View). x.opened) known;
+      dones = ap (λ (b : BookView g.row.S.Denot). done_in b.ledger) (sym same) ∙ ap (λ (l : LedgerView). done_in l) did.stands.is_ledger ∙ did.dones ∙ ap (λ (x : View). x.dones) known;
+      knows = subst (λ (x : BookView g.row.S.Denot × View). Knows x.0.ledger x.1) (λ i. (start i, known i)) did.knows;
       book = subst (λ (x : BookView g.row.S.Denot × BookView g.row.S.Denot × List Entry). StandsAfter g.S.Shelf.kept g.S.Shelf.held x.0 x.1 x.2) (λ i. (start i, same i, entries i)) did.stands;
     }
