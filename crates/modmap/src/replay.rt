@@ -4,8 +4,9 @@ ghost use Rattle.std.specs.Prelude.{◌≡◌, ◌⊎◌, ◌≤◌, ◌<◌, �
 ghost use Rattle.mm_outside.specs.Causes.{HasCause, Rose};
 ghost use Rattle.mm_outside.specs.Sending.{AppendsAll};
 ghost use Rattle.mm_outside.specs.Told.{Told};
-ghost use Rattle.std.specs.Option.{option_map_or, option_to_list};
-ghost use Rattle.histories.specs.Answered.{accepts, stored_unit};
+ghost use Rattle.std.specs.Option.{option_to_list};
+ghost use Rattle.unit_registry.specs.Acts.{is_done, is_pause};
+ghost use Rattle.histories.specs.Answered.{stored_unit};
 ghost use Rattle.histories.specs.Entries.{IsEntry};
 ghost use Rattle.histories.specs.Histories.{IsFirstFault, IsLegal};
 ghost use Rattle.registry_core.specs.Ledgers.{Appends, Passes, done_in, open_in};
@@ -15,7 +16,7 @@ ghost use Rattle.modmap.specs.Reports.{ReportsSo};
 ghost use Rattle.modmap.specs.Paging.{Puts};
 ghost use Rattle.modmap.specs.Replays.{end_line, entries_text, entry_text, placed_text, replay_report, replay_text, whole_report};
 ghost use Rattle.modmap.specs.TraceFiles.{HasForm};
-ghost use Rattle.modmap.specs.Plays.{HasPlayed, IsKind, IsOf, IsWaitingList, awaited_by, ends_by, found_texts, option_text, wait_at, waits_in};
+ghost use Rattle.modmap.specs.Plays.{HasPlayed, IsKind, IsOf, IsWaitingList, awaited_by, found_texts, may_end_with, option_text, said_by, wait_at, waits_in};
 
 use crate::check::{REPORT_ROOM, issue_illegal};
 use crate::held::Held;
@@ -23,9 +24,10 @@ use crate::sources::read_sources;
 use crate::telling::{tell, tell_memory};
 use cody_words::LineBuf;
 use connection_replies::ReplyBuf;
-use histories::{Answer, Entry, Wait};
+use histories::{Answer, Answered, Entry, Said, Wait};
 use mm_outside::{Failed, Files, Memory, Sink};
 use registry_core::{Book, Leaving, NoShelf};
+use registry_tables::may_end;
 use std::alloc::Global;
 use trace_text::{CheckError, IllegalReason, Trace, check_legal};
 use unit_registry::{Act, Project};
@@ -186,25 +188,22 @@ fn imported_by(act: Act) -> Option<u32>
     }
 }
 
-/// Whether it is an answer, and no refusal.
-fn is_accepted(own: Option<Answer>) -> bool
-    ensures { result ≡ option_map_or accepts own false }
+/// What was said at once, as far as an answer tells it.
+fn said_by(own: Option<Answer>) -> Said
+    ensures { result ≡ said_by own }
 {
     match own {
-        Some(Answer::Refused(_)) | None => false,
-        Some(_) => true,
+        Some(answer) => Said::Reply(answer),
+        None => Said::Nothing,
     }
 }
 
-/// Whether an act that is answered so at once may end a unit.
-fn ends_by(act: Act, own: Option<Answer>) -> bool
-    ensures { result ≡ ends_by act own }
+/// Whether a stall may come with the act. Behind any other one either its connection goes on, or it has gone and a
+/// worker is free.
+fn may_stall(act: Act) -> bool
+    ensures { result ≡ (is_pause act || is_done act) }
 {
-    match act {
-        Act::Left | Act::Lost => true,
-        Act::Compiled { .. } => is_accepted(own),
-        _ => false,
-    }
+    matches!(act, Act::Pause | Act::Done)
 }
 
 /// Whether no worker is free.
@@ -215,13 +214,16 @@ fn is_busy(book: &Book<NoShelf>, workers: u32) -> bool
     book.open_count() + book.done_count() == workers
 }
 
-/// Whether a unit may end with an act that is answered so at once: it may end one itself, or no worker is free any
-/// more.
-fn may_end(book: &Book<NoShelf>, workers: u32, act: Act, own: Option<Answer>) -> bool
-    ensures { result ≡ ((open_in book.now.ledger + done_in book.now.ledger == workers) || ends_by act own) }
+/// Whether a unit may end with an entry that is answered so at once.
+fn may_end_with(book: &Book<NoShelf>, workers: u32, entry: Entry, own: Option<Answer>) -> bool
+    ensures { result ≡ may_end_with book.now.ledger workers entry own }
 {
-    let busy = is_busy(book, workers);
-    busy || ends_by(act, own)
+    let newest = Answered {
+        conn: entry.conn,
+        act: entry.act,
+        said: said_by(own),
+    };
+    may_end(newest, may_stall(entry.act) && is_busy(book, workers))
 }
 
 /// Adds an import that waits for this unit, if there is one.
@@ -308,7 +310,7 @@ fn play<K: Sink>(
 {
     enter(book, entry);
     let own = book.look(place);
-    let ends = may_end(book, workers, entry.act, own);
+    let ends = may_end_with(book, workers, entry, own);
     match put_entered(
         project, place, &entry, own, ends, book, waiting, held, reply, out,
     ) {

@@ -10,7 +10,7 @@ use Rattle.modmap.proofs.replay.play.Goals as goal
 pub put_entered-requires-clause-idle : goal.put_entered-requires-clause-idle
 put_entered-requires-clause-idle g c =
     let same : c.deref.result.now ≡ c.args.waiting.now.items = search rules in
-    played_idle c.args.project.now c.args.workers c.args.book.now.ledger c.enter.new.book.ledger c.args.entry c.requires.of c.enter.ensures c.args.place c.requires.place c.deref.result.now (record { are = same ∙ c.requires.waits.are }) c.look-own.result c.look-own.ensures c.may_end-ends.result c.may_end-ends.ensures
+    played_idle c.args.project.now c.args.workers c.args.book.now.ledger c.enter.new.book.ledger c.args.entry c.requires.of c.enter.ensures c.args.place c.requires.place c.deref.result.now (record { are = same ∙ c.requires.waits.are }) c.look-own.result c.look-own.ensures c.may_end_with-ends.result c.may_end_with-ends.ensures
 
 pub add_waiting-requires : goal.add_waiting-requires
 add_waiting-requires g c = waiting_room c.args.book.now.ledger c.args.waiting.now.items _ c.requires.waits c.requires.room
@@ -19,7 +19,7 @@ pub drop_if_settled-requires : goal.drop_if_settled-requires
 drop_if_settled-requires g c = record {
   idle = λ none.
       subst (λ items. filter (waits_in c.enter.new.book.ledger) items ≡ items) (sym (c.add_waiting.ensures.items ∙ ap (λ unit. c.args.waiting.now.items ++ option_to_list (option_map (wait_at c.args.place c.args.entry.conn) unit)) c.awaited_by.ensures))
-      (played_stay c.args.project.now c.args.workers c.args.book.now.ledger c.enter.new.book.ledger c.args.entry c.requires.of c.enter.ensures c.args.place c.requires.place c.args.waiting.now.items c.requires.waits c.look-own.result c.look-own.ensures c.may_end-ends.result c.may_end-ends.ensures none);
+      (played_stay c.args.project.now c.args.workers c.args.book.now.ledger c.enter.new.book.ledger c.args.entry c.requires.of c.enter.ensures c.args.place c.requires.place c.args.waiting.now.items c.requires.waits c.look-own.result c.look-own.ensures c.may_end_with-ends.result c.may_end_with-ends.ensures none);
 }
 
 pub returns-in-Ok-clause-text : goal.returns-in-Ok-clause-text
