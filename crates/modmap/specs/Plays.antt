@@ -1,5 +1,5 @@
 -- How a replay goes on with an entry: working definitions, and no part of what is printed.
-use Rattle.std.specs.Prelude.{◌≡◌, ℕ, ◌+◌, ◌==◌, ◌&&◌, ◌||◌, Bool, false, List, [], ◌∷◌, take, reverse, filter_map, flat_map, Option, Some, None, is_none, option_map}
+use Rattle.std.specs.Prelude.{◌≡◌, ℕ, ◌+◌, ◌==◌, ◌&&◌, ◌||◌, Bool, false, List, [], ◌∷◌, ◌++◌, take, reverse, filter_map, flat_map, Option, Some, None, is_none, option_map}
 use Rattle.std.specs.Option.{option_to_list}
 use Rattle.unit_registry.specs.declared.act.Act.{Act}
 use Rattle.unit_registry.specs.declared.act.Act.TheVariants.{Open, Import, Done}
@@ -64,6 +64,10 @@ awaited_by None act = None
 -- an import that waits
 abbrev pub wait_at : ℕ → ℕ → ℕ → Wait
 wait_at place conn unit = record { place = place; conn = conn; unit = unit }
+
+-- these imports, and the one that waits with an entry, if it does
+abbrev pub with_wait : ℕ → Entry → Option Answer → List Wait → List Wait
+with_wait place entry own waiting = waiting ++ option_to_list (option_map (wait_at place entry.conn) (awaited_by own entry.act))
 
 -- the history is of this project and of so many workers
 pub record IsOf (project : ProjectView) (workers : ℕ) (ledger : LedgerView) : Type 0 where
