@@ -18,6 +18,7 @@ pub mod UnitReports
 pub mod Writings
 pub mod Reporting
 pub mod Tasks
+pub mod Stalling
 pub mod Replaying
 pub mod Limits
 pub mod Puttings

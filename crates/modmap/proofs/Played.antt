@@ -6,6 +6,7 @@ use Rattle.std.proofs.lemmas.Grind.{flat_map-append}
 use Rattle.std.specs.Prelude.{filter_map, option_map}
 use Rattle.std.specs.Option.{option_to_list}
 use Rattle.std.specs.List.{cons_option, list_all}
+use Rattle.unit_registry.specs.Acts.{goes, is_done, is_pause}
 use Rattle.unit_registry.specs.Projects.{ProjectView}
 use Rattle.histories.specs.declared.answer.Answer.{Answer}
 use Rattle.histories.specs.declared.answer.Said.{Said}
@@ -13,7 +14,7 @@ use Rattle.histories.specs.declared.answered.Wait.{Wait}
 use Rattle.histories.specs.declared.entry.Entry.{Entry}
 use Rattle.histories.specs.Answered.{done_count, is_open, open_connections, open_count}
 use Rattle.histories.specs.Noted.{Noted, answer_in, answered_of, pending, reply_in}
-use Rattle.histories.specs.Histories.{and_then, fault, is_stalled, is_stuck, note}
+use Rattle.histories.specs.Histories.{and_then, fault, is_stalled, is_stuck, note, with_said}
 use Rattle.histories.proofs.Acyclic.{answered_entry}
 use Rattle.histories.proofs.GoingOn.{candidates, in_waits, reply_new}
 use Rattle.histories.proofs.Legality.{length-noted_of, none_is, noted_push}
@@ -23,8 +24,9 @@ use Rattle.registry_tables.specs.Imported.{may_end_unit}
 use Rattle.registry_tables.proofs.Openings.{reverse_filter}
 use Rattle.registry_core.specs.Ledgers.{Appends, IsLedger, LedgerView, Passes, done_in, noted_in, open_in, reply_at, with_entry}
 use Rattle.modmap.specs.Replays.{entry_text, found_at, found_text, placed_text}
-use Rattle.modmap.specs.Plays.{IsOf, IsWaitingList, awaited_by, ends_by, found_in, found_texts, option_text, wait_at, waits_in}
+use Rattle.modmap.specs.Plays.{IsOf, IsWaitingList, awaited_by, found_in, found_texts, may_end_with, option_text, said_by, wait_at, waits_in}
 use Rattle.modmap.proofs.Playing.{awaited_is, candidates_reversed, ends_alike}
+use Rattle.modmap.proofs.Stalling.{goes_on}
 use Rattle.modmap.proofs.Replaying.{all_wait, coming_is, found_after, pending_then, waits_then}
 
 -- ---- lists
@@ -125,14 +127,30 @@ module _ (ledger : LedgerView) (entry : Entry) (legal : IsLedger ledger) (passes
       ∙ ap reverse (sym (pending_then project ledger.workers ledger.limit noted entry standing_is passed) ∙ ap (λ n. pending project n) (sym pushed))
 
   -- an entry with which no unit can have ended
-  module _ (idle : ((open_in after + done_in after == ledger.workers) || ends_by entry.act own) ≡ false) where
-    ends_none : may_end_unit (answered_entry project noted entry) ≡ false
-    ends_none = ends_alike said entry.act ∙ ap (λ o. ends_by entry.act o) (sym own_is) ∙ (or_parts (open_in after + done_in after == ledger.workers) (ends_by entry.act own) idle).1
+  module _ (idle : may_end_with after ledger.workers entry own ≡ false) where
+    abbrev stops : Bool
+    stops = is_pause entry.act || is_done entry.act
 
+    abbrev busy : Bool
+    busy = open_in after + done_in after == ledger.workers
+
+    idle_parts : ((stops && busy) ≡ false) × (may_end_unit (with_said entry (said_by own)) ≡ false)
+    idle_parts = or_parts (stops && busy) (may_end_unit (with_said entry (said_by own))) idle
+
+    ends_none : may_end_unit (answered_entry project noted entry) ≡ false
+    ends_none = ends_alike said entry ∙ ap (λ o. may_end_unit (with_said entry (said_by o))) (sym own_is) ∙ idle_parts.1
+
+    -- a worker is free, or the entry's own connection goes on
     stalls_none : is_stalled project ledger.workers (note entry said [] ∷ noted) ≡ false
-    stalls_none =
-        not_busy (not (open_count (answered_of later) == 0)) (open_count (answered_of later) + done_count (answered_of later) == ledger.workers) (list_all (is_stuck project (note entry said [] ∷ noted)) (open_connections (answered_of later)))
-        (sym (ap (λ (n : List Noted). open_count (answered_of n) + done_count (answered_of n) == ledger.workers) pushed) ∙ (or_parts (open_in after + done_in after == ledger.workers) (ends_by entry.act own) idle).0)
+    stalls_none = by stops refl
+      where
+        by : (b : Bool) → stops ≡ b → is_stalled project ledger.workers (note entry said [] ∷ noted) ≡ false
+        by true e =
+            not_busy (not (open_count (answered_of later) == 0)) (open_count (answered_of later) + done_count (answered_of later) == ledger.workers) (list_all (is_stuck project (note entry said [] ∷ noted)) (open_connections (answered_of later)))
+            (sym (ap (λ (n : List Noted). open_count (answered_of n) + done_count (answered_of n) == ledger.workers) pushed) ∙ sym (ap (λ s. s && busy) e) ∙ idle_parts.0)
+        by false e =
+            let other = or_parts (is_pause entry.act) (is_done entry.act) e in
+            goes_on project ledger.workers ledger.limit noted entry standing_is passed (or_parts (goes entry.act) _ ends_none).0 other.1 other.0
 
     still_waits : (w : Wait) → In w (candidates project noted entry) → waits_then project ledger.workers ledger.limit noted entry standing_is passed w ≡ true
     still_waits = all_wait project ledger.workers ledger.limit noted entry standing_is passed ends_none stalls_none
@@ -186,21 +204,21 @@ module _ (project : ProjectView) (workers : ℕ) (before after : LedgerView) (en
         ∙ ap (λ (l : LedgerView). reverse (pending l.project (noted_in l))) (sym enters.appended);
   }
 
-  idle_is : ((open_in after + done_in after == workers) || ends_by entry.act own) ≡ false → ((open_in (with_entry before entry) + done_in (with_entry before entry) == before.workers) || ends_by entry.act (reply_at (with_entry before entry) (length before.entries))) ≡ false
+  idle_is : may_end_with after workers entry own ≡ false → may_end_with (with_entry before entry) before.workers entry (reply_at (with_entry before entry) (length before.entries)) ≡ false
   idle_is idle =
-      sym (ap₂ (λ (l : LedgerView) n. (open_in l + done_in l == n) || ends_by entry.act own) enters.appended (sym of.workers_is)
-      ∙ ap (λ o. (open_in (with_entry before entry) + done_in (with_entry before entry) == before.workers) || ends_by entry.act o) own_is_there)
+      sym (ap₂ (λ (l : LedgerView) n. may_end_with l n entry own) enters.appended (sym of.workers_is)
+      ∙ ap (λ o. may_end_with (with_entry before entry) before.workers entry o) own_is_there)
       ∙ idle
 
   -- where no unit can have ended, none of them has a reply
-  pub played_idle : (ends : Bool) → ends ≡ ((open_in after + done_in after == workers) || ends_by entry.act own) → ends ≡ false → found_texts project after waiting ≡ []
+  pub played_idle : (ends : Bool) → ends ≡ may_end_with after workers entry own → ends ≡ false → found_texts project after waiting ≡ []
   played_idle ends is idle =
       ap₂ (λ p l. found_texts p l waiting) (sym of.project_is) enters.appended
       ∙ ap (λ ws. found_texts before.project (with_entry before entry) ws) are.are
       ∙ none_found before entry enters.legal enters.passes (idle_is (sym is ∙ idle))
 
   -- and all of them wait
-  pub played_stay : (ends : Bool) → ends ≡ ((open_in after + done_in after == workers) || ends_by entry.act own) → ends ≡ false → filter (waits_in after) added ≡ added
+  pub played_stay : (ends : Bool) → ends ≡ may_end_with after workers entry own → ends ≡ false → filter (waits_in after) added ≡ added
   played_stay ends is idle =
       ap₂ (λ (l : LedgerView) xs. filter (waits_in l) xs) enters.appended added_are
       ∙ all_listed before entry enters.legal enters.passes (idle_is (sym is ∙ idle))

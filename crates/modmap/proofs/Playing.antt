@@ -9,24 +9,25 @@ use Rattle.std.specs.Option.{option_to_list}
 use Rattle.std.specs.Prelude.{filter_map, option_map, slice_get, if◌then◌else◌}
 use Rattle.unit_registry.specs.declared.act.Act.{Act}
 use Rattle.unit_registry.specs.declared.act.Act.TheVariants.{Import}
-use Rattle.unit_registry.specs.Acts.{goes}
 use Rattle.unit_registry.specs.Projects.{ProjectView}
 use Rattle.histories.specs.declared.answer.Answer.{Answer}
 use Rattle.histories.specs.declared.answer.Said.{Said}
 use Rattle.histories.specs.declared.answer.Said.TheVariants.{Reply, Waits, Nothing}
 use Rattle.histories.specs.declared.answered.Wait.{Wait}
-use Rattle.histories.specs.Answered.{is_accepted, wait_of}
+use Rattle.histories.specs.declared.entry.Entry.{Entry}
+use Rattle.histories.specs.Answered.{wait_of}
 use Rattle.mapper_replies.specs.declared.refusal.Refusal.TheVariants.{ImportCycle, NotConnected}
 use Rattle.histories.specs.declared.standing.Fate.{Fate}
 use Rattle.histories.specs.declared.standing.Fate.TheVariants.{Compiled, Failed}
 use Rattle.histories.specs.Answers.{at_once, by_fate, closes_cycle, is_connected, refused}
+use Rattle.histories.specs.Histories.{with_said}
 use Rattle.histories.specs.Noted.{Noted, answer_in, answered_of, fate}
 use Rattle.histories.proofs.WhatIsSaid.{waits_by_import}
-use Rattle.registry_tables.specs.Imported.{is_report}
+use Rattle.registry_tables.specs.Imported.{may_end_unit}
 use Rattle.registry_core.specs.Ledgers.{LedgerView, reply_at}
 use Rattle.modmap.specs.Paging.{Puts}
 use Rattle.modmap.specs.Replays.{found_text}
-use Rattle.modmap.specs.Plays.{awaited_by, ends_by, found_in, found_texts, option_text, wait_at}
+use Rattle.modmap.specs.Plays.{awaited_by, found_in, found_texts, option_text, said_by, wait_at}
 use Rattle.modmap.proofs.Puttings.{puts_part, puts_then}
 use Rattle.modmap.proofs.Replaying.{filter_map_last}
 
@@ -42,10 +43,10 @@ candidates_reversed (Reply answer) place conn ws = sym (append-nil (reverse ws))
 candidates_reversed Nothing place conn ws = sym (append-nil (reverse ws))
 
 -- whether an accepted report, or a going, may end a unit
-pub ends_alike : (said : Said) (act : Act) → (goes act || (is_accepted said && is_report act)) ≡ ends_by act (answer_in said)
-ends_alike (Reply answer) act = refl
-ends_alike (Waits unit) act = refl
-ends_alike Nothing act = refl
+pub ends_alike : (said : Said) (entry : Entry) → may_end_unit (with_said entry said) ≡ may_end_unit (with_said entry (said_by (answer_in said)))
+ends_alike (Reply answer) entry = refl
+ends_alike (Waits unit) entry = refl
+ends_alike Nothing entry = refl
 
 -- what is said at once to an import that wants more than the name is an answer, or to wait
 never_nothing : (connected cycle : Bool) (fate : Option Fate) (unit : ℕ) → (if connected then by_fate fate unit (if cycle then refused ImportCycle else Waits unit) else refused NotConnected) ≢ Nothing

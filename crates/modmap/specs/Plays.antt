@@ -1,18 +1,21 @@
 -- How a replay goes on with an entry: working definitions, and no part of what is printed.
-use Rattle.std.specs.Prelude.{◌≡◌, ℕ, ◌&&◌, ◌||◌, Bool, false, List, [], ◌∷◌, take, reverse, filter_map, flat_map, Option, Some, None, is_none, option_map}
-use Rattle.std.specs.Option.{option_map_or, option_to_list}
+use Rattle.std.specs.Prelude.{◌≡◌, ℕ, ◌+◌, ◌==◌, ◌&&◌, ◌||◌, Bool, false, List, [], ◌∷◌, ◌++◌, take, reverse, filter_map, flat_map, Option, Some, None, is_none, option_map}
+use Rattle.std.specs.Option.{option_to_list}
 use Rattle.unit_registry.specs.declared.act.Act.{Act}
 use Rattle.unit_registry.specs.declared.act.Act.TheVariants.{Open, Import, Done}
-use Rattle.unit_registry.specs.Acts.{goes}
+use Rattle.unit_registry.specs.Acts.{is_done, is_pause}
 use Rattle.unit_registry.specs.Projects.{ProjectView}
 use Rattle.histories.specs.declared.answer.Answer.{Answer}
+use Rattle.histories.specs.declared.answer.Said.{Said}
+use Rattle.histories.specs.declared.answer.Said.TheVariants.{Reply, Nothing}
 use Rattle.histories.specs.declared.answered.Wait.{Wait}
-use Rattle.histories.specs.Answered.{accepts}
+use Rattle.histories.specs.declared.entry.Entry.{Entry}
 use Rattle.histories.specs.Counts.{Asks, effect_of}
+use Rattle.histories.specs.Histories.{with_said}
 use Rattle.histories.specs.Noted.{pending}
-use Rattle.registry_tables.specs.Imported.{is_report}
+use Rattle.registry_tables.specs.Imported.{may_end_unit}
 use Rattle.trace_text.specs.declared.trace.Trace.{Trace}
-use Rattle.registry_core.specs.Ledgers.{LedgerView, is_open_in, leaving, noted_in, reply_at}
+use Rattle.registry_core.specs.Ledgers.{LedgerView, done_in, is_open_in, leaving, noted_in, open_in, reply_at}
 use Rattle.modmap.specs.declared.replay.Kind.{Kind}
 use Rattle.modmap.specs.declared.replay.Kind.TheVariants as kind
 use Rattle.modmap.specs.Replays.{Found, found_at, found_text}
@@ -40,9 +43,17 @@ option_text project place answer = flat_map (found_text project) (option_to_list
 abbrev pub waits_in : LedgerView → Wait → Bool
 waits_in ledger wait = is_open_in ledger wait.conn && is_none (reply_at ledger wait.place)
 
--- whether an act that is answered so at once may end a unit
-abbrev pub ends_by : Act → Option Answer → Bool
-ends_by act own = goes act || (option_map_or accepts own false && is_report act)
+-- what was said at once, as far as an answer tells it
+abbrev pub said_by : Option Answer → Said
+said_by (Some answer) = Reply answer
+said_by None = Nothing
+
+-- Whether a unit may end with an entry that is answered so at once: by the entry itself; or by a stall, which comes where
+-- no worker is free, and with a Pause or a Done alone.
+abbrev pub may_end_with : LedgerView → ℕ → Entry → Option Answer → Bool
+may_end_with ledger workers entry own =
+    ((is_pause entry.act || is_done entry.act) && open_in ledger + done_in ledger == workers)
+    || may_end_unit (with_said entry (said_by own))
 
 -- the unit for which an act that has no answer waits
 abbrev pub awaited_by : Option Answer → Act → Option ℕ
@@ -53,6 +64,10 @@ awaited_by None act = None
 -- an import that waits
 abbrev pub wait_at : ℕ → ℕ → ℕ → Wait
 wait_at place conn unit = record { place = place; conn = conn; unit = unit }
+
+-- these imports, and the one that waits with an entry, if it does
+abbrev pub with_wait : ℕ → Entry → Option Answer → List Wait → List Wait
+with_wait place entry own waiting = waiting ++ option_to_list (option_map (wait_at place entry.conn) (awaited_by own entry.act))
 
 -- the history is of this project and of so many workers
 pub record IsOf (project : ProjectView) (workers : ℕ) (ledger : LedgerView) : Type 0 where

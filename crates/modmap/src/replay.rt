@@ -4,18 +4,19 @@ ghost use Rattle.std.specs.Prelude.{◌≡◌, ◌⊎◌, ◌≤◌, ◌<◌, �
 ghost use Rattle.mm_outside.specs.Causes.{HasCause, Rose};
 ghost use Rattle.mm_outside.specs.Sending.{AppendsAll};
 ghost use Rattle.mm_outside.specs.Told.{Told};
-ghost use Rattle.std.specs.Option.{option_map_or, option_to_list};
-ghost use Rattle.histories.specs.Answered.{accepts, stored_unit};
+ghost use Rattle.std.specs.Option.{option_to_list};
+ghost use Rattle.unit_registry.specs.Acts.{is_done, is_pause};
+ghost use Rattle.histories.specs.Answered.{stored_unit};
 ghost use Rattle.histories.specs.Entries.{IsEntry};
 ghost use Rattle.histories.specs.Histories.{IsFirstFault, IsLegal};
-ghost use Rattle.registry_core.specs.Ledgers.{Appends, Passes, done_in, open_in};
+ghost use Rattle.registry_core.specs.Ledgers.{Appends, Passes, done_in, open_in, reply_at};
 ghost use Rattle.registry_core.specs.Shelves.{ComesWith};
 ghost use Rattle.modmap.specs.Endings.{Ends, Issues, output_of};
 ghost use Rattle.modmap.specs.Reports.{ReportsSo};
 ghost use Rattle.modmap.specs.Paging.{Puts};
 ghost use Rattle.modmap.specs.Replays.{end_line, entries_text, entry_text, placed_text, replay_report, replay_text, whole_report};
 ghost use Rattle.modmap.specs.TraceFiles.{HasForm};
-ghost use Rattle.modmap.specs.Plays.{HasPlayed, IsKind, IsOf, IsWaitingList, awaited_by, ends_by, found_texts, option_text, wait_at, waits_in};
+ghost use Rattle.modmap.specs.Plays.{HasPlayed, IsKind, IsOf, IsWaitingList, awaited_by, found_texts, may_end_with, option_text, said_by, wait_at, waits_in, with_wait};
 
 use crate::check::{REPORT_ROOM, issue_illegal};
 use crate::held::Held;
@@ -23,9 +24,10 @@ use crate::sources::read_sources;
 use crate::telling::{tell, tell_memory};
 use cody_words::LineBuf;
 use connection_replies::ReplyBuf;
-use histories::{Answer, Entry, Wait};
+use histories::{Answer, Answered, Entry, Said, Wait};
 use mm_outside::{Failed, Files, Memory, Sink};
 use registry_core::{Book, Leaving, NoShelf};
+use registry_tables::may_end;
 use std::alloc::Global;
 use trace_text::{CheckError, IllegalReason, Trace, check_legal};
 use unit_registry::{Act, Project};
@@ -41,6 +43,38 @@ enum Kind {
     Ends,
     /// Asks something for an open one.
     Asks,
+}
+
+/// The book of the entries so far, and the imports that wait in it.
+#[derive(Drop)]
+struct Board {
+    book: Book<NoShelf>,
+    waiting: Vec<Wait>,
+}
+
+/// An entry that was entered.
+#[derive(Clone, Copy)]
+struct Entered {
+    place: u32,
+    entry: Entry,
+    /// The reply that came with it at once, if one did.
+    own: Option<Answer>,
+    /// Whether a unit may have ended with it.
+    ends: bool,
+}
+
+/// The text that goes out, and the room for the line of a reply.
+#[derive(Drop)]
+struct Page {
+    held: Held,
+    reply: ReplyBuf,
+}
+
+/// Plays a trace: enters its entries, and puts their lines.
+#[derive(Drop)]
+struct Player {
+    board: Board,
+    page: Page,
 }
 
 /// What the act does with a book.
@@ -95,74 +129,6 @@ fn enter(book: &mut Book<NoShelf>, entry: Entry)
     }
 }
 
-/// Puts the line of a reply, if there is one.
-fn put_found<K: Sink>(
-    project: &Project,
-    place: u32,
-    answer: Option<Answer>,
-    held: &mut Held,
-    reply: &mut ReplyBuf,
-    out: &mut K,
-) -> Result<(), Failed>
-    ensures text { Puts result (option_text project.now place answer) held.old.octets held.new.octets (K.written out.old) (K.written out.new) }
-    ensures cause { HasCause (K.faults out.old) (K.faults out.new) result }
-{
-    match answer {
-        Some(answer) => held.put_reply(project, place, answer, reply, out),
-        None => Ok(()),
-    }
-}
-
-/// The place of one of the imports.
-fn place_at(waiting: &[Wait], k: usize) -> u32
-    requires { k < length waiting.now }
-    ensures { (wait : Wait) × (slice_get waiting.now k ≡ Some wait) × (result ≡ wait.place) }
-{
-    waiting[k].place
-}
-
-/// Puts the lines of the imports that have a reply.
-fn put_ended<K: Sink>(
-    project: &Project,
-    book: &Book<NoShelf>,
-    waiting: &[Wait],
-    held: &mut Held,
-    reply: &mut ReplyBuf,
-    out: &mut K,
-) -> Result<(), Failed>
-    ensures text { Puts result (found_texts project.now book.now.ledger waiting.now) held.old.octets held.new.octets (K.written out.old) (K.written out.new) }
-    ensures cause { HasCause (K.faults out.old) (K.faults out.new) result }
-{
-    for k in 0..waiting.len() {
-        let place = place_at(waiting, k);
-        match put_found(project, place, book.look(place), held, reply, out) {
-            Ok(()) => {}
-            Err(Failed) => return Err(Failed),
-        }
-    }
-    Ok(())
-}
-
-/// The same, where none of them is looked at, since none can have a reply yet.
-fn put_if_ended<K: Sink>(
-    project: &Project,
-    book: &Book<NoShelf>,
-    waiting: &[Wait],
-    ends: bool,
-    held: &mut Held,
-    reply: &mut ReplyBuf,
-    out: &mut K,
-) -> Result<(), Failed>
-    requires idle { ends ≡ false → found_texts project.now book.now.ledger waiting.now ≡ [] }
-    ensures text { Puts result (found_texts project.now book.now.ledger waiting.now) held.old.octets held.new.octets (K.written out.old) (K.written out.new) }
-    ensures cause { HasCause (K.faults out.old) (K.faults out.new) result }
-{
-    if ends {
-        return put_ended(project, book, waiting, held, reply, out);
-    }
-    Ok(())
-}
-
 /// The unit for which an act that has no answer waits.
 fn awaited_by(own: Option<Answer>, act: Act) -> Option<u32>
     ensures { result ≡ awaited_by own act }
@@ -186,25 +152,22 @@ fn imported_by(act: Act) -> Option<u32>
     }
 }
 
-/// Whether it is an answer, and no refusal.
-fn is_accepted(own: Option<Answer>) -> bool
-    ensures { result ≡ option_map_or accepts own false }
+/// What was said at once, as far as an answer tells it.
+fn said_by(own: Option<Answer>) -> Said
+    ensures { result ≡ said_by own }
 {
     match own {
-        Some(Answer::Refused(_)) | None => false,
-        Some(_) => true,
+        Some(answer) => Said::Reply(answer),
+        None => Said::Nothing,
     }
 }
 
-/// Whether an act that is answered so at once may end a unit.
-fn ends_by(act: Act, own: Option<Answer>) -> bool
-    ensures { result ≡ ends_by act own }
+/// Whether a stall may come with the act. Behind any other one either its connection goes on, or it has gone and a
+/// worker is free.
+fn may_stall(act: Act) -> bool
+    ensures { result ≡ (is_pause act || is_done act) }
 {
-    match act {
-        Act::Left | Act::Lost => true,
-        Act::Compiled { .. } => is_accepted(own),
-        _ => false,
-    }
+    matches!(act, Act::Pause | Act::Done)
 }
 
 /// Whether no worker is free.
@@ -215,13 +178,16 @@ fn is_busy(book: &Book<NoShelf>, workers: u32) -> bool
     book.open_count() + book.done_count() == workers
 }
 
-/// Whether a unit may end with an act that is answered so at once: it may end one itself, or no worker is free any
-/// more.
-fn may_end(book: &Book<NoShelf>, workers: u32, act: Act, own: Option<Answer>) -> bool
-    ensures { result ≡ ((open_in book.now.ledger + done_in book.now.ledger == workers) || ends_by act own) }
+/// Whether a unit may end with an entry that is answered so at once.
+fn may_end_with(book: &Book<NoShelf>, workers: u32, entry: Entry, own: Option<Answer>) -> bool
+    ensures { result ≡ may_end_with book.now.ledger workers entry own }
 {
-    let busy = is_busy(book, workers);
-    busy || ends_by(act, own)
+    let newest = Answered {
+        conn: entry.conn,
+        act: entry.act,
+        said: said_by(own),
+    };
+    may_end(newest, may_stall(entry.act) && is_busy(book, workers))
 }
 
 /// Adds an import that waits for this unit, if there is one.
@@ -254,109 +220,256 @@ fn drop_if_settled(waiting: &mut Vec<Wait>, book: &Book<NoShelf>, ends: bool)
     }
 }
 
-/// Puts the lines of an entry that was entered: what it is, the replies of the imports that have one now, and its own.
-fn put_entered<K: Sink>(
-    project: &Project,
-    place: u32,
-    entry: &Entry,
-    own: Option<Answer>,
-    ends: bool,
-    book: &Book<NoShelf>,
-    waiting: &[Wait],
-    held: &mut Held,
-    reply: &mut ReplyBuf,
-    out: &mut K,
-) -> Result<(), Failed>
-    requires entry { IsEntry entry.now }
-    requires idle { ends ≡ false → found_texts project.now book.now.ledger waiting.now ≡ [] }
-    ensures text { Puts result (placed_text place entry.now ++ (found_texts project.now book.now.ledger waiting.now ++ option_text project.now place own)) held.old.octets held.new.octets (K.written out.old) (K.written out.new) }
-    ensures cause { HasCause (K.faults out.old) (K.faults out.new) result }
-{
-    if let Err(Failed) = held.put_entry(place, entry, out) {
-        return Err(Failed);
+impl Board {
+    /// No entries, and no imports that wait, with room for a legal trace. All memory is taken here.
+    fn new(alloc: Global, project: &Project, trace: &Trace) -> Result<Board, Memory>
+        requires form { HasForm trace.now }
+        requires legal { IsLegal project.now trace.now.workers trace.now.limit trace.now.entries }
+        ensures start { IfOk result (λ board. HasPlayed project.now trace.now board.book.ledger.limit 0 board.book.ledger board.waiting.items) }
+        ensures legal { IfOk result (λ board. IsLegal project.now trace.now.workers board.book.ledger.limit trace.now.entries) }
+        ensures room { IfOk result (λ board. length trace.now.entries ≤ vec_capacity board.waiting) }
+    {
+        let waiting = waiting_room(alloc, trace.entries.len())?;
+        let book = book_for(alloc, project, trace)?;
+        Ok(Board { book, waiting })
     }
-    if let Err(Failed) = put_if_ended(project, book, waiting, ends, held, reply, out) {
-        return Err(Failed);
-    }
-    put_found(project, place, own, held, reply, out)
-}
 
-/// Enters an entry that passes the checks, and puts its lines. After `Failed` the imports that wait aren't those any
-/// more.
-fn play<K: Sink>(
-    project: &Project,
-    workers: u32,
-    place: u32,
-    entry: Entry,
-    book: &mut Book<NoShelf>,
-    waiting: &mut Vec<Wait>,
-    held: &mut Held,
-    reply: &mut ReplyBuf,
-    out: &mut K,
-) -> Result<(), Failed>
-    requires place { place ≡ length book.old.ledger.entries }
-    requires entry { IsEntry entry }
-    requires passes { Passes book.old.ledger entry }
-    requires of { IsOf project.now workers book.old.ledger }
-    requires waits { IsWaitingList book.old.ledger waiting.old.items }
-    requires room { length book.old.ledger.entries < vec_capacity waiting.old }
-    ensures text { Puts result (entry_text project.now workers book.old.ledger.entries entry) held.old.octets held.new.octets (K.written out.old) (K.written out.new) }
-    ensures entered { Appends book.old.ledger entry book.new.ledger }
-    ensures waits { IfOk result (λ _. IsWaitingList book.new.ledger waiting.new.items) }
-    ensures capacity { vec_capacity waiting.new ≡ vec_capacity waiting.old }
-    ensures cause { HasCause (K.faults out.old) (K.faults out.new) result }
-{
-    enter(book, entry);
-    let own = book.look(place);
-    let ends = may_end(book, workers, entry.act, own);
-    match put_entered(
-        project, place, &entry, own, ends, book, waiting, held, reply, out,
-    ) {
-        Ok(()) => {
-            add_waiting(waiting, place, entry.conn, awaited_by(own, entry.act));
-            drop_if_settled(waiting, book, ends);
-            Ok(())
-        }
-        Err(Failed) => Err(Failed),
-    }
-}
-
-/// Enters the entries of a legal trace, and puts their lines.
-fn play_entries<K: Sink>(
-    project: &Project,
-    trace: &Trace,
-    book: &mut Book<NoShelf>,
-    waiting: &mut Vec<Wait>,
-    held: &mut Held,
-    reply: &mut ReplyBuf,
-    out: &mut K,
-) -> Result<(), Failed>
-    requires form { HasForm trace.now }
-    requires legal { IsLegal project.now trace.now.workers book.old.ledger.limit trace.now.entries }
-    requires start { HasPlayed project.now trace.now book.old.ledger.limit 0 book.old.ledger waiting.old.items }
-    requires room { length trace.now.entries ≤ vec_capacity waiting.old }
-    ensures text { Puts result (entries_text project.now trace.now.workers [] trace.now.entries) held.old.octets held.new.octets (K.written out.old) (K.written out.new) }
-    ensures played { IfOk result (λ _. HasPlayed project.now trace.now book.old.ledger.limit (length trace.now.entries) book.new.ledger waiting.new.items) }
-    ensures cause { HasCause (K.faults out.old) (K.faults out.new) result }
-{
-    for place in 0..trace.entries.len() {
-        let entry = trace.entries.get(place);
-        match play(
-            project,
-            trace.workers,
+    /// Enters an entry that passes the checks.
+    fn add(&mut self, workers: u32, place: u32, entry: Entry) -> Entered
+        requires entry { IsEntry entry }
+        requires passes { Passes self.old.book.ledger entry }
+        ensures place { result.place ≡ place }
+        ensures entry { result.entry ≡ entry }
+        ensures entered { Appends self.old.book.ledger result.entry self.new.book.ledger }
+        ensures own { result.own ≡ reply_at self.new.book.ledger result.place }
+        ensures ends { result.ends ≡ may_end_with self.new.book.ledger workers result.entry result.own }
+        ensures waiting { self.new.waiting ≡ self.old.waiting }
+    {
+        enter(&mut self.book, entry);
+        let own = self.book.look(place);
+        let ends = may_end_with(&self.book, workers, entry, own);
+        Entered {
             place,
-            *entry,
-            book,
-            waiting,
-            held,
-            reply,
-            out,
-        ) {
-            Ok(()) => {}
-            Err(Failed) => return Err(Failed),
+            entry,
+            own,
+            ends,
         }
     }
-    Ok(())
+
+    /// The place of one of the imports that wait.
+    fn place_at(&self, k: usize) -> u32
+        requires { k < length self.now.waiting.items }
+        ensures { (wait : Wait) × (slice_get self.now.waiting.items k ≡ Some wait) × (result ≡ wait.place) }
+    {
+        self.waiting[k].place
+    }
+
+    /// Adds the import that waits with an entry, if one does, and drops those that do not wait any more.
+    fn settle(&mut self, entered: Entered)
+        requires room { length self.old.waiting.items < vec_capacity self.old.waiting }
+        requires idle { entered.ends ≡ false → filter (waits_in self.old.book.ledger) (with_wait entered.place entered.entry entered.own self.old.waiting.items) ≡ with_wait entered.place entered.entry entered.own self.old.waiting.items }
+        ensures waiting { self.new.waiting.items ≡ filter (waits_in self.old.book.ledger) (with_wait entered.place entered.entry entered.own self.old.waiting.items) }
+        ensures capacity { vec_capacity self.new.waiting ≡ vec_capacity self.old.waiting }
+        ensures book { self.new.book ≡ self.old.book }
+    {
+        let unit = awaited_by(entered.own, entered.entry.act);
+        add_waiting(&mut self.waiting, entered.place, entered.entry.conn, unit);
+        drop_if_settled(&mut self.waiting, &self.book, entered.ends);
+    }
+}
+
+impl Page {
+    /// Nothing is held. All memory is taken here.
+    fn new(alloc: Global) -> Result<Page, Memory>
+        ensures { IfOk result (λ page. page.held.octets ≡ []) }
+    {
+        let held = Held::new(alloc)?;
+        let reply = ReplyBuf::new(alloc, 1)?;
+        Ok(Page { held, reply })
+    }
+
+    /// Puts the line of a reply, if there is one.
+    fn put_found<K: Sink>(
+        &mut self,
+        project: &Project,
+        place: u32,
+        answer: Option<Answer>,
+        out: &mut K,
+    ) -> Result<(), Failed>
+        ensures text { Puts result (option_text project.now place answer) self.old.held.octets self.new.held.octets (K.written out.old) (K.written out.new) }
+        ensures cause { HasCause (K.faults out.old) (K.faults out.new) result }
+    {
+        match answer {
+            Some(answer) => self
+                .held
+                .put_reply(project, place, answer, &mut self.reply, out),
+            None => Ok(()),
+        }
+    }
+
+    /// Puts the lines of the imports that have a reply.
+    fn put_ended<K: Sink>(
+        &mut self,
+        project: &Project,
+        board: &Board,
+        out: &mut K,
+    ) -> Result<(), Failed>
+        ensures text { Puts result (found_texts project.now board.now.book.ledger board.now.waiting.items) self.old.held.octets self.new.held.octets (K.written out.old) (K.written out.new) }
+        ensures cause { HasCause (K.faults out.old) (K.faults out.new) result }
+    {
+        for k in 0..board.waiting.len() {
+            let place = board.place_at(k);
+            match self.put_found(project, place, board.book.look(place), out) {
+                Ok(()) => {}
+                Err(Failed) => return Err(Failed),
+            }
+        }
+        Ok(())
+    }
+
+    /// The same, where none of them is looked at, since none can have a reply yet.
+    fn put_if_ended<K: Sink>(
+        &mut self,
+        project: &Project,
+        board: &Board,
+        ends: bool,
+        out: &mut K,
+    ) -> Result<(), Failed>
+        requires idle { ends ≡ false → found_texts project.now board.now.book.ledger board.now.waiting.items ≡ [] }
+        ensures text { Puts result (found_texts project.now board.now.book.ledger board.now.waiting.items) self.old.held.octets self.new.held.octets (K.written out.old) (K.written out.new) }
+        ensures cause { HasCause (K.faults out.old) (K.faults out.new) result }
+    {
+        if ends {
+            return self.put_ended(project, board, out);
+        }
+        Ok(())
+    }
+
+    /// Puts the lines of an entry that was entered: what it is, the replies of the imports that have one now, and its
+    /// own.
+    fn put_entered<K: Sink>(
+        &mut self,
+        project: &Project,
+        board: &Board,
+        entered: Entered,
+        out: &mut K,
+    ) -> Result<(), Failed>
+        requires entry { IsEntry entered.entry }
+        requires idle { entered.ends ≡ false → found_texts project.now board.now.book.ledger board.now.waiting.items ≡ [] }
+        ensures text { Puts result (placed_text entered.place entered.entry ++ (found_texts project.now board.now.book.ledger board.now.waiting.items ++ option_text project.now entered.place entered.own)) self.old.held.octets self.new.held.octets (K.written out.old) (K.written out.new) }
+        ensures cause { HasCause (K.faults out.old) (K.faults out.new) result }
+    {
+        if let Err(Failed) = self.held.put_entry(entered.place, &entered.entry, out) {
+            return Err(Failed);
+        }
+        if let Err(Failed) = self.put_if_ended(project, board, entered.ends, out) {
+            return Err(Failed);
+        }
+        self.put_found(project, entered.place, entered.own, out)
+    }
+}
+
+impl Player {
+    /// Has entered nothing yet, and has room for a legal trace. All memory is taken here.
+    fn new(alloc: Global, project: &Project, trace: &Trace) -> Result<Player, Memory>
+        requires form { HasForm trace.now }
+        requires legal { IsLegal project.now trace.now.workers trace.now.limit trace.now.entries }
+        ensures start { IfOk result (λ player. HasPlayed project.now trace.now player.board.book.ledger.limit 0 player.board.book.ledger player.board.waiting.items) }
+        ensures legal { IfOk result (λ player. IsLegal project.now trace.now.workers player.board.book.ledger.limit trace.now.entries) }
+        ensures room { IfOk result (λ player. length trace.now.entries ≤ vec_capacity player.board.waiting) }
+        ensures empty { IfOk result (λ player. player.page.held.octets ≡ []) }
+    {
+        let page = Page::new(alloc)?;
+        let board = Board::new(alloc, project, trace)?;
+        Ok(Player { board, page })
+    }
+
+    /// Enters an entry that passes the checks, and puts its lines. After `Failed` the imports that wait aren't those any
+    /// more.
+    fn play<K: Sink>(
+        &mut self,
+        project: &Project,
+        workers: u32,
+        place: u32,
+        entry: Entry,
+        out: &mut K,
+    ) -> Result<(), Failed>
+        requires place { place ≡ length self.old.board.book.ledger.entries }
+        requires entry { IsEntry entry }
+        requires passes { Passes self.old.board.book.ledger entry }
+        requires of { IsOf project.now workers self.old.board.book.ledger }
+        requires waits { IsWaitingList self.old.board.book.ledger self.old.board.waiting.items }
+        requires room { length self.old.board.book.ledger.entries < vec_capacity self.old.board.waiting }
+        ensures text { Puts result (entry_text project.now workers self.old.board.book.ledger.entries entry) self.old.page.held.octets self.new.page.held.octets (K.written out.old) (K.written out.new) }
+        ensures entered { Appends self.old.board.book.ledger entry self.new.board.book.ledger }
+        ensures waits { IfOk result (λ _. IsWaitingList self.new.board.book.ledger self.new.board.waiting.items) }
+        ensures capacity { vec_capacity self.new.board.waiting ≡ vec_capacity self.old.board.waiting }
+        ensures cause { HasCause (K.faults out.old) (K.faults out.new) result }
+    {
+        let entered = self.board.add(workers, place, entry);
+        match self.page.put_entered(project, &self.board, entered, out) {
+            Ok(()) => {
+                self.board.settle(entered);
+                Ok(())
+            }
+            Err(Failed) => Err(Failed),
+        }
+    }
+
+    /// Enters the entries of a legal trace, and puts their lines.
+    fn play_entries<K: Sink>(
+        &mut self,
+        project: &Project,
+        trace: &Trace,
+        out: &mut K,
+    ) -> Result<(), Failed>
+        requires form { HasForm trace.now }
+        requires legal { IsLegal project.now trace.now.workers self.old.board.book.ledger.limit trace.now.entries }
+        requires start { HasPlayed project.now trace.now self.old.board.book.ledger.limit 0 self.old.board.book.ledger self.old.board.waiting.items }
+        requires room { length trace.now.entries ≤ vec_capacity self.old.board.waiting }
+        ensures text { Puts result (entries_text project.now trace.now.workers [] trace.now.entries) self.old.page.held.octets self.new.page.held.octets (K.written out.old) (K.written out.new) }
+        ensures played { IfOk result (λ _. HasPlayed project.now trace.now self.old.board.book.ledger.limit (length trace.now.entries) self.new.board.book.ledger self.new.board.waiting.items) }
+        ensures cause { HasCause (K.faults out.old) (K.faults out.new) result }
+    {
+        for place in 0..trace.entries.len() {
+            let entry = trace.entries.get(place);
+            match self.play(project, trace.workers, place, *entry, out) {
+                Ok(()) => {}
+                Err(Failed) => return Err(Failed),
+            }
+        }
+        Ok(())
+    }
+
+    /// Enters the entries of a legal trace, and writes their lines and the last one.
+    fn play_trace<K: Sink>(
+        &mut self,
+        project: &Project,
+        trace: &Trace,
+        out: &mut K,
+    ) -> Result<(), Failed>
+        requires form { HasForm trace.now }
+        requires legal { IsLegal project.now trace.now.workers self.old.board.book.ledger.limit trace.now.entries }
+        requires start { HasPlayed project.now trace.now self.old.board.book.ledger.limit 0 self.old.board.book.ledger self.old.board.waiting.items }
+        requires room { length trace.now.entries ≤ vec_capacity self.old.board.waiting }
+        requires empty { self.old.page.held.octets ≡ [] }
+        ensures text { Told (AppendsAll result (replay_text project.now trace.now)) (K.written out.old) (K.written out.new) }
+        ensures cause { HasCause (K.faults out.old) (K.faults out.new) result }
+    {
+        match self.play_entries(project, trace, out) {
+            Ok(()) => {
+                self.board.book.is_legal();
+                let waits = count_of(&self.board.waiting);
+                put_last(
+                    self.board.book.open_count(),
+                    waits,
+                    &mut self.page.held,
+                    out,
+                )
+            }
+            Err(Failed) => Err(Failed),
+        }
+    }
 }
 
 /// How many imports wait.
@@ -365,33 +478,6 @@ fn count_of(waiting: &[Wait]) -> u32
     ensures { result ≡ length waiting.now }
 {
     waiting.len() as u32
-}
-
-/// Enters the entries of a legal trace, and writes their lines and the last one.
-fn play_trace<K: Sink>(
-    project: &Project,
-    trace: &Trace,
-    book: &mut Book<NoShelf>,
-    waiting: &mut Vec<Wait>,
-    held: &mut Held,
-    reply: &mut ReplyBuf,
-    out: &mut K,
-) -> Result<(), Failed>
-    requires form { HasForm trace.now }
-    requires legal { IsLegal project.now trace.now.workers book.old.ledger.limit trace.now.entries }
-    requires start { HasPlayed project.now trace.now book.old.ledger.limit 0 book.old.ledger waiting.old.items }
-    requires room { length trace.now.entries ≤ vec_capacity waiting.old }
-    requires empty { held.old.octets ≡ [] }
-    ensures text { Told (AppendsAll result (replay_text project.now trace.now)) (K.written out.old) (K.written out.new) }
-    ensures cause { HasCause (K.faults out.old) (K.faults out.new) result }
-{
-    match play_entries(project, trace, book, waiting, held, reply, out) {
-        Ok(()) => {
-            book.is_legal();
-            put_last(book.open_count(), count_of(waiting), held, out)
-        }
-        Err(Failed) => Err(Failed),
-    }
 }
 
 /// Puts the last line, and writes what is held.
@@ -404,34 +490,6 @@ fn put_last<K: Sink>(opened: u32, waits: u32, held: &mut Held, out: &mut K) -> R
         Ok(()) => held.flush(out),
         Err(Failed) => Err(Failed),
     }
-}
-
-/// Prints the entries of a legal trace and their replies, and the last line. It wants memory only before it prints.
-fn print_replay<K: Sink>(
-    alloc: Global,
-    project: &Project,
-    trace: &Trace,
-    out: &mut K,
-) -> Result<Result<(), Failed>, Memory>
-    requires form { HasForm trace.now }
-    requires legal { IsLegal project.now trace.now.workers trace.now.limit trace.now.entries }
-    ensures printed { IfOk result (λ printed. Told (AppendsAll printed (replay_text project.now trace.now)) (K.written out.old) (K.written out.new)) }
-    ensures cause { IfOk result (λ printed. HasCause (K.faults out.old) (K.faults out.new) printed) }
-    ensures memory { OnErr result (out.new ≡ out.old) }
-{
-    let mut held = Held::new(alloc)?;
-    let mut reply = ReplyBuf::new(alloc, 1)?;
-    let mut waiting = waiting_room(alloc, trace.entries.len())?;
-    let mut book = book_for(alloc, project, trace)?;
-    Ok(play_trace(
-        project,
-        trace,
-        &mut book,
-        &mut waiting,
-        &mut held,
-        &mut reply,
-        out,
-    ))
 }
 
 /// No imports, with room for so many.
@@ -479,8 +537,8 @@ fn issue_replay<K: Sink>(
     ensures issued { IfOk result (λ status. Issues (whole_report project.now trace.now) (output_of K.written K.faults out.old out.new) status) }
     ensures memory { OnErr result (out.new ≡ out.old) }
 {
-    let printed = print_replay(alloc, project, trace, out)?;
-    match printed {
+    let mut player = Player::new(alloc, project, trace)?;
+    match player.play_trace(project, trace, out) {
         Ok(()) => Ok(0),
         Err(Failed) => Ok(5),
     }

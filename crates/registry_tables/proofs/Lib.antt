@@ -3,3 +3,4 @@ pub mod Openings
 pub mod Pairs
 pub mod Settling
 pub mod Padding
+pub mod Scanning

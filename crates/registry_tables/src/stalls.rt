@@ -1,6 +1,7 @@
 //! Stalls: nothing can come any more, and the units that no connection holds are given up.
 ghost use Rattle.std.specs.Prelude.{◌≡◌, ◌==◌, ◌&&◌, ◌||◌, not, ℕ, ◌<◌, ◌≤◌, ◌^◌, false, length, get_or, reverse};
-ghost use Rattle.std.specs.List.{list_any};
+ghost use Rattle.std.specs.List.{list_all, list_any};
+ghost use Rattle.histories.specs.Answered.{is_paused, open_connections};
 ghost use Rattle.histories.proofs.Members.{In};
 ghost use Rattle.registry_tables.specs.declared.imports.Waiting.{Waiting};
 ghost use Rattle.registry_tables.specs.Stalled.{AreWithin, is_waiting_in, all_wait_in, is_stalled_in, gives_up};
@@ -13,27 +14,41 @@ fn is_waiting(waiting: &[Waiting], tables: &Tables, conn: u32) -> bool
     requires { AreWithin tables.now waiting.now }
     ensures { result ≡ is_waiting_in tables.now (reverse waiting.now) conn }
 {
-    let mut found = false;
     for waiter in waiting {
         if waiter.conn == conn && tables.fate(waiter.unit).is_none() {
-            found = true;
+            return true;
         }
     }
-    found
+    false
 }
 
-/// Whether each open connection has paused and waits.
+/// Whether each open connection has paused.
+fn all_paused(tables: &Tables) -> bool
+    ensures { result ≡ list_all (is_paused tables.now.answered) (open_connections tables.now.answered) }
+{
+    for conn in tables.open() {
+        if !tables.is_paused(*conn) {
+            return false;
+        }
+    }
+    true
+}
+
+/// Whether each open connection has paused and waits. One that has not paused is looked for first, since behind most
+/// entries there is one.
 fn all_wait(waiting: &[Waiting], tables: &Tables) -> bool
     requires { AreWithin tables.now waiting.now }
     ensures { result ≡ all_wait_in tables.now (reverse waiting.now) }
 {
-    let mut all = true;
+    if !all_paused(tables) {
+        return false;
+    }
     for conn in tables.open() {
-        if !(tables.is_paused(*conn) && is_waiting(waiting, tables, *conn)) {
-            all = false;
+        if !is_waiting(waiting, tables, *conn) {
+            return false;
         }
     }
-    all
+    true
 }
 
 /// Whether nothing can come any more.
