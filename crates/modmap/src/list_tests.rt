@@ -91,11 +91,36 @@ const WORKED_FAULTS: [&[u8]; 10] = [
 /// A project of one plain unit.
 const PLAIN: &[u8] = b"modmap-project 1\nrepo r\nplain e.cc\nend\n";
 
-/// Sources of the plain unit, and the reports on it.
-const PLAINS: [(&[u8], u8, &[u8]); 3] = [
-    (b"int x; T y;", 1, b"failed e.cc line 1 'unknown type'\n"),
-    (b"int", 1, b"failed e.cc line 1 syntax\n"),
-    (b"", 0, b"ok e.cc 0\n"),
+/// The text of one file, and what a report over it comes to.
+#[derive(Drop)]
+struct Case {
+    text: &'static [u8],
+    status: u8,
+    output: &'static [u8],
+}
+
+/// Sources of the plain unit, and the reports on it. The name of a partition is spelled out nowhere.
+const PLAINS: [Case; 4] = [
+    Case {
+        text: b"int x; T y;",
+        status: 1,
+        output: b"failed e.cc line 1 'unknown type'\n",
+    },
+    Case {
+        text: b"int",
+        status: 1,
+        output: b"failed e.cc line 1 syntax\n",
+    },
+    Case {
+        text: b"",
+        status: 0,
+        output: b"ok e.cc 0\n",
+    },
+    Case {
+        text: b"import m;\nimport m:p;",
+        status: 1,
+        output: b"failed e.cc line 2 syntax\n",
+    },
 ];
 
 /// A project of a module that was built before and a module above it.
@@ -105,48 +130,113 @@ const BUILT: &[u8] = b"modmap-project 1\nrepo gcm.cache\nbuilt module b b.cc\nmo
 const ABOVE: &[u8] = b"export module c; import b; T f();";
 
 /// Texts in the file of the interface of the unit that was built before, the status and what is printed: its own
-/// interface; another unit's; and a text at fault at each of the lines.
-const CMIS: [(&[u8], u8, &[u8]); 8] = [
+/// interface; another unit's; a text at fault at each of the lines; and another unit's that is at fault on a later line.
+const CMIS: [Case; 10] = [
+    Case {
+        text: b"modmap-cmi 1\nunit b interface\nexport struct T b\ninner struct T b\nend\n",
+        status: 0,
+        output: b"built b.cc 1\nname struct T b\nok c.cc 0\n",
+    },
+    Case {
+        text: b"modmap-cmi 1\nunit a interface\nexport struct A a\ninner struct A a\nend\n",
+        status: 6,
+        output: b"modmap: gcm.cache/b.gcm:2: unit differs from project\n",
+    },
+    Case {
+        text: b"modmap-cmi 2\nunit b interface\nexport struct T b\ninner struct T b\nend\n",
+        status: 6,
+        output: b"modmap: gcm.cache/b.gcm:1: not a cmi\n",
+    },
+    Case {
+        text: b"modmap-cmi 1\nunit 9 interface\nexport struct T b\ninner struct T b\nend\n",
+        status: 6,
+        output: b"modmap: gcm.cache/b.gcm:2: not a cmi\n",
+    },
+    Case {
+        text: b"modmap-cmi 1\nunit b interface\nexport struct T\ninner struct T b\nend\n",
+        status: 6,
+        output: b"modmap: gcm.cache/b.gcm:3: not a cmi\n",
+    },
+    Case {
+        text: b"modmap-cmi 1\nunit b interface\nexport struct T b\ninner type T b\nend\n",
+        status: 6,
+        output: b"modmap: gcm.cache/b.gcm:4: not a cmi\n",
+    },
+    Case {
+        text: b"modmap-cmi 1\nunit b interface\nexport struct T b\ninner struct T b\n",
+        status: 6,
+        output: b"modmap: gcm.cache/b.gcm:5: not a cmi\n",
+    },
+    Case {
+        text: b"modmap-cmi 1\nunit b interface\nexport struct T b\ninner struct T b\nend\nend\n",
+        status: 6,
+        output: b"modmap: gcm.cache/b.gcm:6: not a cmi\n",
+    },
+    Case {
+        text: b"modmap-cmi 1\nunit a interface\nexport struct A a\ninner type A a\nend\n",
+        status: 6,
+        output: b"modmap: gcm.cache/b.gcm:4: not a cmi\n",
+    },
+    Case {
+        text: b"modmap-cmi 1\nunit a interface\nexport struct A a\ninner struct A a\nend\nend\n",
+        status: 6,
+        output: b"modmap: gcm.cache/b.gcm:6: not a cmi\n",
+    },
+];
+
+/// A project of a partition and a header unit that were built before and a module above them, with the files of their
+/// interfaces under the repository.
+const BUILT_PARTS: [Named<'static>; 4] = [
     (
-        b"modmap-cmi 1\nunit b interface\nexport struct T b\ninner struct T b\nend\n",
-        0,
-        b"built b.cc 1\nname struct T b\nok c.cc 0\n",
+        b"p",
+        b"modmap-project 1
+repo gcm.cache
+built module m:p p.cc
+built header ./h.h h.h
+module m m.cc
+end
+",
     ),
     (
-        b"modmap-cmi 1\nunit a interface\nexport struct A a\ninner struct A a\nend\n",
-        6,
-        b"modmap: gcm.cache/b.gcm:2: unit differs from project\n",
+        b"gcm.cache/m-p.gcm",
+        b"modmap-cmi 1
+unit 'm:p' interface
+export struct P m
+inner struct P m
+inner struct Hidden m
+end
+",
     ),
     (
-        b"modmap-cmi 2\nunit b interface\nexport struct T b\ninner struct T b\nend\n",
-        6,
-        b"modmap: gcm.cache/b.gcm:1: not a cmi\n",
+        b"gcm.cache/,/h.h.gcm",
+        b"modmap-cmi 1
+unit ./h.h interface
+export struct H ./h.h
+inner struct H ./h.h
+end
+",
     ),
     (
-        b"modmap-cmi 1\nunit 9 interface\nexport struct T b\ninner struct T b\nend\n",
-        6,
-        b"modmap: gcm.cache/b.gcm:2: not a cmi\n",
+        b"m.cc",
+        b"export module m; export import :p; import \"./h.h\"; export P make(H, Hidden);",
     ),
-    (
-        b"modmap-cmi 1\nunit b interface\nexport struct T\ninner struct T b\nend\n",
-        6,
-        b"modmap: gcm.cache/b.gcm:3: not a cmi\n",
-    ),
-    (
-        b"modmap-cmi 1\nunit b interface\nexport struct T b\ninner type T b\nend\n",
-        6,
-        b"modmap: gcm.cache/b.gcm:4: not a cmi\n",
-    ),
-    (
-        b"modmap-cmi 1\nunit b interface\nexport struct T b\ninner struct T b\n",
-        6,
-        b"modmap: gcm.cache/b.gcm:5: not a cmi\n",
-    ),
-    (
-        b"modmap-cmi 1\nunit b interface\nexport struct T b\ninner struct T b\nend\nend\n",
-        6,
-        b"modmap: gcm.cache/b.gcm:6: not a cmi\n",
-    ),
+];
+
+const BUILT_PARTS_REPORT: &[u8] = b"built p.cc 1
+name struct P m
+built h.h 1
+name struct H ./h.h
+ok m.cc 2
+name function make m
+name struct P m
+";
+
+/// What is said where the read of this number fails.
+const BUILT_PARTS_FAULTS: [&[u8]; 4] = [
+    b"modmap: cannot read p\n",
+    b"modmap: cannot read gcm.cache/m-p.gcm\n",
+    b"modmap: cannot read 'gcm.cache/,/h.h.gcm'\n",
+    b"modmap: cannot read m.cc\n",
 ];
 
 /// A project of three modules and a plain unit.
@@ -185,8 +275,9 @@ struct Units {
 }
 
 /// Rings of one, of two and of three, with a unit above each; imports that no unit is declared for; a partition of
-/// another module; and a partition without an interface that is exported.
-const FAILURES: [Units; 5] = [
+/// another module; a partition without an interface that is exported; and a partition whose whole name is spelled out in
+/// another module.
+const FAILURES: [Units; 6] = [
     Units {
         project: ABC,
         idents: ABC_IDENTS,
@@ -241,6 +332,17 @@ const FAILURES: [Units; 5] = [
             b"export module m:p; import m;",
         ],
         report: b"failed n.cc import m\nfailed m.cc line 2 'exported implementation unit'\nok q.cc 0\nfailed p.cc import m\n",
+    },
+    Units {
+        project: PARTS,
+        idents: PARTS_IDENTS,
+        sources: [
+            b"export module n;\nimport m:p;",
+            b"export module m; export import :p;",
+            b"module m:q;",
+            b"export module m:p; export class P;",
+        ],
+        report: b"failed n.cc line 2 syntax\nok m.cc 1\nname class P m\nok q.cc 0\nok p.cc 1\nname class P m\n",
     },
 ];
 
@@ -310,18 +412,31 @@ fn the_worked_project(rt: HostRuntime) -> Result<(), Fail> {
 
 #[test]
 fn plain_units(rt: HostRuntime) -> Result<(), Fail> {
-    for (source, status, output) in &PLAINS {
-        let named: [Named<'_>; 2] = [(b"p", PLAIN), (b"e.cc", source)];
-        assert!(rt; lists(&rt, &named, &[], *status, output) == Some(true));
+    for case in &PLAINS {
+        let named: [Named<'_>; 2] = [(b"p", PLAIN), (b"e.cc", case.text)];
+        assert!(rt; lists(&rt, &named, &[], case.status, case.output) == Some(true));
     }
     Ok(())
 }
 
 #[test]
 fn units_that_were_built_before(rt: HostRuntime) -> Result<(), Fail> {
-    for (text, status, output) in &CMIS {
-        let named: [Named<'_>; 3] = [(b"p", BUILT), (b"gcm.cache/b.gcm", text), (b"c.cc", ABOVE)];
-        assert!(rt; lists(&rt, &named, &[], *status, output) == Some(true));
+    for case in &CMIS {
+        let named: [Named<'_>; 3] = [
+            (b"p", BUILT),
+            (b"gcm.cache/b.gcm", case.text),
+            (b"c.cc", ABOVE),
+        ];
+        assert!(rt; lists(&rt, &named, &[], case.status, case.output) == Some(true));
+    }
+    Ok(())
+}
+
+#[test]
+fn parts_that_were_built_before(rt: HostRuntime) -> Result<(), Fail> {
+    assert!(rt; lists(&rt, &BUILT_PARTS, &[], 0, BUILT_PARTS_REPORT) == Some(true));
+    for (number, output) in BUILT_PARTS_FAULTS.iter().enumerate() {
+        assert!(rt; lists(&rt, &BUILT_PARTS, &[number as u64], 4, output) == Some(true));
     }
     Ok(())
 }
@@ -342,6 +457,13 @@ fn failing_reads(rt: HostRuntime) -> Result<(), Fail> {
     Ok(())
 }
 
+/// Whether the report on the worked project ends with status 5 and nothing of it is printed where the first write to the
+/// sink fails, though the sink would take more behind it.
+fn is_not_begun(rt: &HostRuntime) -> Option<bool> {
+    let mut files = files_of(rt.alloc(), &WORKED, 4_000, &[])?;
+    ends_so(rt, &["list", "p"], &mut files, &[0], 5, b"")
+}
+
 /// Whether the report on the worked project is cut behind so many octets, where the sink takes no more.
 fn is_cut_behind(rt: &HostRuntime, octets: usize) -> Option<bool> {
     let alloc = rt.alloc();
@@ -360,6 +482,7 @@ fn a_report_that_is_cut_short(rt: HostRuntime) -> Result<(), Fail> {
     for octets in 0..WORKED_REPORT.len() {
         assert!(rt; is_cut_behind(&rt, octets) == Some(true), "{octets}");
     }
+    assert!(rt; is_not_begun(&rt) == Some(true));
     Ok(())
 }
 

@@ -16,9 +16,9 @@ end
 ";
 
 /// Replays over the project of two modules, each a trace, the status and the output: an import that waits until its unit
-/// is compiled; a ring of two, whose second import is refused; a holder that goes, so that its unit fails; no entries; a
-/// trace that isn't legal.
-const REPLAYS: [(&[u8], u8, &[u8]); 5] = [
+/// is compiled; a ring of two, whose second import is refused; a holder that goes, so that its unit fails; no entries; the
+/// greatest limit that a trace may name; a trace that isn't legal.
+const REPLAYS: [(&[u8], u8, &[u8]); 6] = [
     (
         b"modmap-trace 1 2 40
 0 open
@@ -119,10 +119,71 @@ open 2 waiting 0
     ),
     (b"modmap-trace 1 1 9\nend 0\n", 0, b"open 0 waiting 0\n"),
     (
-        b"modmap-trace 1 1 9\n0 open\n0 left\n0 repo\nend 3\n",
-        1,
-        b"illegal 2 conn not open\n",
+        b"modmap-trace 1 1 67108864\n0 open\n0 repo\n0 left\nend 3\n",
+        0,
+        b"0: 0 open\n1: 0 repo\n  1 ERROR 'not connected'\n2: 0 left\nopen 0 waiting 0\n",
     ),
+    (GONE, 1, b"illegal 2 conn not open\n"),
+];
+
+/// A trace over the project of two modules that isn't legal.
+const GONE: &[u8] = b"modmap-trace 1 1 9\n0 open\n0 left\n0 repo\nend 3\n";
+
+/// A replay of that trace at which something is at fault, with the numbers of the reads and the writes that fail.
+#[derive(Drop)]
+struct Faulty {
+    words: &'static [&'static str],
+    failing_reads: &'static [u64],
+    failing_writes: &'static [u64],
+    status: u8,
+    output: &'static [u8],
+}
+
+/// An absent trace; the read of the project file and of the trace failing; the write of the report failing, and that of
+/// a message, behind which the sink would take more; and words of no form.
+const FAULTS: [Faulty; 6] = [
+    Faulty {
+        words: &["replay", "p", "q"],
+        failing_reads: &[],
+        failing_writes: &[],
+        status: 4,
+        output: b"modmap: cannot read q\n",
+    },
+    Faulty {
+        words: &["replay", "p", "t"],
+        failing_reads: &[0],
+        failing_writes: &[],
+        status: 4,
+        output: b"modmap: cannot read p\n",
+    },
+    Faulty {
+        words: &["replay", "p", "t"],
+        failing_reads: &[1],
+        failing_writes: &[],
+        status: 4,
+        output: b"modmap: cannot read t\n",
+    },
+    Faulty {
+        words: &["replay", "p", "t"],
+        failing_reads: &[],
+        failing_writes: &[0],
+        status: 5,
+        output: b"",
+    },
+    Faulty {
+        words: &["replay", "p", "q"],
+        failing_reads: &[],
+        failing_writes: &[0],
+        status: 4,
+        output: b"",
+    },
+    Faulty {
+        words: &["replay", "p"],
+        failing_reads: &[],
+        failing_writes: &[0],
+        status: 2,
+        output: b"",
+    },
 ];
 
 /// What is common to all traces of a ring of three.
@@ -207,25 +268,48 @@ fn ring_prints(rt: &HostRuntime, alloc: Global, order: &[u8], output: &[u8]) -> 
     Some(status == 0 && out.written() == printed.as_slice())
 }
 
-/// A trace of one connection that pauses 9,000 times, whose replay takes more than one write.
+/// A trace of one connection that pauses 13,000 times, whose replay takes three writes.
 fn long_trace(alloc: Global) -> Option<Vec<u8>> {
-    let mut text = joined(alloc, b"modmap-trace 1 1 10000\n", b"0 open\n")?;
-    for _ in 0..9_000 {
+    let mut text = joined(alloc, b"modmap-trace 1 1 20000\n", b"0 open\n")?;
+    for _ in 0..13_000 {
         text.extend_from_slice(b"0 pause\n").ok()?;
     }
-    text.extend_from_slice(b"end 9001\n").ok()?;
+    text.extend_from_slice(b"end 13001\n").ok()?;
     Some(text)
 }
 
-/// Whether a replay whose write of this number fails ends with status 5, and prints the beginning of the text, which is
-/// this many octets at least.
-fn is_cut(rt: &HostRuntime, alloc: Global, failing: u64, least: usize) -> Option<bool> {
+/// How many octets a replay of the long trace prints, where the writes with these numbers fail. It ends with status 5,
+/// and what it prints is a front of the whole text.
+fn printed_before(
+    rt: &HostRuntime,
+    alloc: Global,
+    whole: &[u8],
+    failing_writes: &[u64],
+) -> Option<usize> {
+    let trace = long_trace(alloc)?;
+    let (status, part) = replay(rt, alloc, PROJECT, &trace, failing_writes)?;
+    if status == 5 && whole.starts_with(part.written()) {
+        Some(part.written().len())
+    } else {
+        None
+    }
+}
+
+/// Whether a replay of the long trace at which one write fails ends with status 5 and has printed what the writes before
+/// it took, which is so many octets at least, though the sink would take the writes behind it. The second list has the
+/// number of that write, and all later ones.
+fn is_cut(
+    rt: &HostRuntime,
+    alloc: Global,
+    one: &[u64],
+    all_from: &[u64],
+    least: usize,
+) -> Option<bool> {
     let trace = long_trace(alloc)?;
     let (done, whole) = replay(rt, alloc, PROJECT, &trace, &[])?;
-    let (status, part) = replay(rt, alloc, PROJECT, &trace, &[failing])?;
-    let begins = whole.written().starts_with(part.written());
-    let size = part.written().len();
-    Some(done == 0 && status == 5 && begins && size >= least && size < whole.written().len())
+    let once = printed_before(rt, alloc, whole.written(), one)?;
+    let always = printed_before(rt, alloc, whole.written(), all_from)?;
+    Some(done == 0 && once == always && once >= least && once < whole.written().len())
 }
 
 #[test]
@@ -244,6 +328,28 @@ fn replayed_traces(rt: HostRuntime) -> Result<(), Fail> {
 }
 
 #[test]
+fn replays_at_fault(rt: HostRuntime) -> Result<(), Fail> {
+    for fault in &FAULTS {
+        let row = Row {
+            words: fault.words,
+            project: PROJECT,
+            trace: GONE,
+            status: fault.status,
+            output: fault.output,
+        };
+        let ended = ends_so(
+            &rt,
+            rt.alloc(),
+            &row,
+            fault.failing_reads,
+            fault.failing_writes,
+        );
+        assert!(rt; ended == Some(true));
+    }
+    Ok(())
+}
+
+#[test]
 fn rings_of_three(rt: HostRuntime) -> Result<(), Fail> {
     for (order, output) in &ORDERS {
         assert!(rt; ring_prints(&rt, rt.alloc(), order, output) == Some(true));
@@ -253,7 +359,8 @@ fn rings_of_three(rt: HostRuntime) -> Result<(), Fail> {
 
 #[test]
 fn writes_that_fail(rt: HostRuntime) -> Result<(), Fail> {
-    assert!(rt; is_cut(&rt, rt.alloc(), 0, 0) == Some(true));
-    assert!(rt; is_cut(&rt, rt.alloc(), 1, 60_000) == Some(true));
+    assert!(rt; is_cut(&rt, rt.alloc(), &[0], &[0, 1, 2, 3], 0) == Some(true));
+    assert!(rt; is_cut(&rt, rt.alloc(), &[1], &[1, 2, 3], 60_000) == Some(true));
+    assert!(rt; is_cut(&rt, rt.alloc(), &[2], &[2, 3], 120_000) == Some(true));
     Ok(())
 }

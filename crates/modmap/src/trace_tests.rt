@@ -33,9 +33,9 @@ pub struct Row {
     pub output: &'static [u8],
 }
 
-/// Checks over the project of two modules, each a trace, the status and the output: legal traces, an illegal one for each
+/// Checks over the project of two modules, each a trace, the status and the output: legal traces, illegal ones for each
 /// reason, and a refused one for each reason.
-const CHECKS: [(&[u8], u8, &[u8]); 17] = [
+const CHECKS: [(&[u8], u8, &[u8]); 19] = [
     (GONE, 1, b"illegal 2 conn not open\n"),
     (
         b"modmap-trace 1 1 9\n0 open\n0 left\nend 2\n",
@@ -62,6 +62,16 @@ const CHECKS: [(&[u8], u8, &[u8]); 17] = [
         b"modmap-trace 1 1 9\n0 open\n1 open\nend 2\n",
         1,
         b"illegal 1 too many open\n",
+    ),
+    (
+        b"modmap-trace 1 1 9\n0 open\n- done\nend 2\n",
+        1,
+        b"illegal 1 too many open\n",
+    ),
+    (
+        b"modmap-trace 1 2 9\n0 open\n- done\n1 open\nend 3\n",
+        1,
+        b"illegal 2 too many open\n",
     ),
     (
         b"modmap-trace 1 1 9\n0 open\n0 import 4\nend 2\n",
@@ -228,6 +238,8 @@ fn failing_reads_and_writes(rt: HostRuntime) -> Result<(), Fail> {
     assert!(rt; ends_so(&rt, alloc, &trace_fails, &[1], &[]) == Some(true));
     let report_fails = check(GONE, 5, b"");
     assert!(rt; ends_so(&rt, alloc, &report_fails, &[], &[0]) == Some(true));
+    let good_report_fails = check(b"modmap-trace 1 1 9\nend 0\n", 5, b"");
+    assert!(rt; ends_so(&rt, alloc, &good_report_fails, &[], &[0]) == Some(true));
     let message_fails = check(GONE, 4, b"");
     assert!(rt; ends_so(&rt, alloc, &message_fails, &[0], &[0]) == Some(true));
     Ok(())

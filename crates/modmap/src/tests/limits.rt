@@ -1,7 +1,9 @@
 //! Lines, blocks and files at their limits and one past them.
 
 use super::{PROJECT, Row, comes_to};
-use mm_outside::MemLink;
+use crate::alone::run_alone;
+use crate::trace_tests::words_of;
+use mm_outside::{MemFiles, MemLink, MemSink, Text};
 use std::alloc::Global;
 use std::test::Fail;
 
@@ -84,5 +86,34 @@ fn file_too_long(rt: HostRuntime) -> Result<(), Fail> {
     };
     let link = MemLink::new(rt.alloc(), row.input, 400, &[], &[], &[], &[])?;
     assert!(rt; comes_to(&rt, rt.alloc(), &row, link)?);
+    Ok(())
+}
+
+/// Whether `check p t` over a trace of these octets ends with status 6 and prints this.
+fn check_comes_to(rt: &HostRuntime, trace: Vec<u8>, message: &[u8]) -> Option<bool> {
+    let alloc = rt.alloc();
+    let names = [Text::of(alloc, b"p").ok()?, Text::of(alloc, b"t").ok()?];
+    let contents = [Text::of(alloc, PROJECT).ok()?, Text::from_vec(trace)];
+    let mut files = MemFiles::new(alloc, &names, &contents, 0, 0, &[], &[]).ok()?;
+    let words = words_of(alloc, &["check", "p", "t"])?;
+    let mut link = MemLink::new(alloc, b"", 0, &[], &[], &[], &[]).ok()?;
+    let mut out = MemSink::new(alloc, 200, &[]).ok()?;
+    let status = run_alone(rt, alloc, &words, &mut files, &mut link, &mut out);
+    Some(status == 6 && out.written() == message)
+}
+
+#[test]
+fn longest_trace(rt: HostRuntime) -> Result<(), Fail> {
+    let trace = octets(rt.alloc(), 67_108_864)?;
+    let refused = check_comes_to(&rt, trace, b"modmap: t:1: syntax\n");
+    assert!(rt; refused == Some(true));
+    Ok(())
+}
+
+#[test]
+fn trace_too_long(rt: HostRuntime) -> Result<(), Fail> {
+    let trace = octets(rt.alloc(), 67_108_865)?;
+    let refused = check_comes_to(&rt, trace, b"modmap: t: file too long\n");
+    assert!(rt; refused == Some(true));
     Ok(())
 }
