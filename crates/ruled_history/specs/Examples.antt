@@ -136,8 +136,14 @@ pub record Divided {S : Type 0} (limit : ℕ) (registry : Shared S) (one two : S
   pub two_fresh : IsFreshSeat two.knows
   pub next : two.knows.first ≡ one.knows.first + one.knows.share
 
--- the seat has all workers, its places are those from 0 to 6, where the seven entries stand, and these are the answers
-pub record Finished {S : Type 0} (registry : Shared S) (seat : Sitting) (reported imported : Option Answer) : Type 0 where
+-- Two seats of a share each, whose entries are the first four and the last three of the seven, and the seat that they
+-- are joined to: it has all workers, and its places are those from 0 to 6, where the seven entries stand. These are the
+-- answers.
+pub record Finished {S : Type 0} (registry : Shared S) (one two seat : Sitting) (reported imported : Option Answer) : Type 0 where
+  pub one_share : one.knows.share ≡ 1
+  pub two_share : two.knows.share ≡ 1
+  pub one_places : one.knows.places ≡ 0 ∷ 1 ∷ 2 ∷ 3 ∷ []
+  pub two_places : two.knows.places ≡ 4 ∷ 5 ∷ 6 ∷ []
   pub registry_is : seat.registry ≡ registry.name
   pub share_is : seat.knows.share ≡ registry.opening.ledger.workers
   pub made_are : Made seat.knows.seen seat.knows.places (placed_from 0 both_seats)

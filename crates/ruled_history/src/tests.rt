@@ -52,8 +52,11 @@ fn seven_entries() -> [Entry; 7] {
 #[test]
 fn two_seats_make_seven_entries(rt: HostRuntime) -> Result<(), Fail> {
     let run = two_seats(&rt, rt.alloc()).ok_or("the places are as expected")?;
-    assert!(rt; run.reported == Some(Answer::Done));
-    assert!(rt; run.imported == Some(Answer::Path(0)));
+    let told = &run.reported;
+    assert!(rt; [told.hello, told.exported, told.compiled] == [1, 2, 3]);
+    assert!(rt; run.reported.answer == Some(Answer::Done));
+    assert!(rt; [run.imported.hello, run.imported.imported] == [5, 6]);
+    assert!(rt; run.imported.answer == Some(Answer::Path(0)));
     assert!(rt; run.book.entries() == seven_entries().as_slice());
     Ok(())
 }
