@@ -38,7 +38,7 @@ fn read_project(alloc: Global) -> Option<Project>
 }
 
 /// A book over the project for two workers, with such a limit.
-fn book_of(alloc: Global, limit: u32) -> Option<Book<NoShelf>>
+pub(crate) fn book_of(alloc: Global, limit: u32) -> Option<Book<NoShelf>>
     requires limit { (2 ≤ limit) × (limit ≤ 1000) }
     ensures { IfSome result (λ book. book.ledger ≡ blank limit) }
 {

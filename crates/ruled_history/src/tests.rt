@@ -1,6 +1,7 @@
 //! The worked examples, with memory enough.
 
 use crate::ringing::{fetches, hears, rings};
+use crate::rooms::{fills_up, visits_twice};
 use crate::two_seats::two_seats;
 use crate::two_threads::{Told, two_threads};
 use registry_core::{Answer, Entry};
@@ -106,4 +107,14 @@ fn each_entry_rings_the_bell(rt: HostRuntime) {
 #[test]
 fn a_look_sees_what_others_entered(rt: HostRuntime) {
     assert!(rt; hears(&rt, rt.alloc()));
+}
+
+#[test]
+fn seats_with_rooms_are_never_refused(rt: HostRuntime) {
+    assert!(rt; visits_twice(&rt, rt.alloc()) == Some(6));
+}
+
+#[test]
+fn a_full_history_refuses_with_its_numbers(rt: HostRuntime) {
+    assert!(rt; fills_up(&rt, rt.alloc()) == Some(2));
 }
