@@ -1,8 +1,8 @@
 -- What the worked examples use of desks, seats and the closed book.
-use Rattle.std.proofs.Common.{◌≡◌, inl, inr, ℕ, zero, suc, ◌<◌, ◌≤◌, false, List, [], ◌∷◌, ◌++◌, map, length, Option, Some, None, IsFalse, refl, sym, ap, subst, ◌∙◌, arith, length-append, append_assoc}
+use Rattle.std.proofs.Common.{◌≡◌, inl, inr, ℕ, zero, suc, ◌-◌, ◌<◌, ◌≤◌, false, List, [], ◌∷◌, ◌++◌, map, length, Option, Some, None, IsFalse, refl, sym, ap, subst, ◌∙◌, arith, length-append, append_assoc}
 use Rattle.std.proofs.lemmas.Option.{slice_get_within}
 use Rattle.unit_registry.specs.declared.act.Act.{Act}
-use Rattle.unit_registry.specs.declared.act.Act.TheVariants.{Open, Hello, Export, Import, Compiled}
+use Rattle.unit_registry.specs.declared.act.Act.TheVariants.{Open, Hello, Repo, Export, Import, Compiled}
 use Rattle.histories.specs.declared.entry.Entry.{Entry}
 use Rattle.histories.specs.declared.answer.Answer.{Answer}
 use Rattle.histories.specs.declared.answer.Answer.TheVariants.{Path, Done as Accepted}
@@ -15,8 +15,8 @@ use Rattle.registry_core.proofs.Desks.{slice_get_before, adds_own, opens_own, ad
 use Rattle.ruled_history.specs.declared.board.View.{View}
 use Rattle.ruled_history.specs.Runs.{StartsWith, times, once_below, AreAllPlaces}
 use Rattle.ruled_history.specs.Seats.{Shared, Sitting}
-use Rattle.ruled_history.specs.Views.{joined, Knows, Keeps}
-use Rattle.ruled_history.specs.Examples.{four_units, Placed, at, placed_from, Stand, Made, reporting, importing, both_seats, IsFresh, HasOpen, Opened, Entered, Greeted, HandsOver, Told, ToldAt, Divided, Finished}
+use Rattle.ruled_history.specs.Views.{with_entries, joined, Knows, Keeps}
+use Rattle.ruled_history.specs.Examples.{four_units, blank, Placed, at, placed_from, Stand, Made, reporting, importing, both_seats, IsFresh, HasOpen, IsRoomy, HasRoom, Opened, Entered, Greeted, HandsOver, Told, ToldAt, Divided, Finished}
 use Rattle.ruled_history.proofs.Counts.{begins_shorter}
 use Rattle.ruled_history.proofs.Closing.{none_behind, none_from}
 
@@ -88,6 +88,25 @@ module _ {Held : Type 0} (before after : DeskState Held) where
       loose = adds.stays.metered ∙ has_open.loose;
     };
   }
+
+-- ---- calls in a room
+
+module _ {Held : Type 0} (before after : DeskState Held) (conn place : ℕ) (sound : IsSound after) where
+  pub opened_in_room : IsRoomy before → Adds before (entry conn Open) place after → HasRoom conn 1 after
+  opened_in_room roomy adds = record {
+    own = opens_own before after (entry conn Open) place adds refl;
+    there = adds_is_open before after (entry conn Open) place sound adds (inl refl);
+    room_is = adds.room ∙ ap (λ (n : ℕ). n - 2) roomy.room_is;
+  }
+
+  pub asked_in_room : HasRoom conn 1 before → Adds before (entry conn Repo) place after → HasRoom conn 0 after
+  asked_in_room room adds = record {
+    own = adds_own before after (entry conn Repo) place adds conn room.own;
+    there = adds_is_open before after (entry conn Repo) place sound adds (inr refl);
+    room_is = adds.room ∙ ap (λ (n : ℕ). n - 1) room.room_is;
+  }
+
+-- ---- calls one after the other
 
 module _ {Held : Type 0} (first second third : DeskState Held) where
   pub hands_over : Entered 0 (Export (Some 0)) 2 first second → Entered 0 (Compiled (Some 0) false) 3 second third → HandsOver first third
@@ -186,14 +205,19 @@ module _ (v w : View) (opening : LedgerView) (left : Keeps v (joined v w)) (righ
 module _ {S : Type 0} (limit : ℕ) (registry : Shared S) (one two one_after two_after both : Sitting) (reported imported : Option Answer) where
   pub finished : Divided limit registry one two → ToldAt (placed_from 0 reporting) 3 reported one one_after → ((q : ℕ) × (q < 5) × ToldAt (importing q) 6 imported two two_after)
       → both ≡ record { registry = one_after.registry; knows = joined one_after.knows two_after.knows }
-      → Keeps one_after.knows both.knows → Keeps two_after.knows both.knows → Knows registry.opening.ledger both.knows → Finished registry both reported imported
+      → Keeps one_after.knows both.knows → Keeps two_after.knows both.knows → Knows registry.opening.ledger both.knows → Finished registry one_after two_after both reported imported
   finished d t u is left right knows =
       let whole : both.knows ≡ joined one_after.knows two_after.knows = ap (λ (s : Sitting). s.knows) is in
       let l : Keeps one_after.knows (joined one_after.knows two_after.knows) = subst (Keeps one_after.knows) whole left in
       let r : Keeps two_after.knows (joined one_after.knows two_after.knows) = subst (Keeps two_after.knows) whole right in
       let k : Knows registry.opening.ledger (joined one_after.knows two_after.knows) = subst (Knows registry.opening.ledger) whole knows in
       let workers : registry.opening.ledger.workers ≡ 2 = ap (λ (x : LedgerView). x.workers) d.opening_is in
+      let fourth : u.0 ≡ 4 = is_fourth one_after.knows two_after.knows registry.opening.ledger l r k u.0 u.1 t.made_are u.2.made_are in
       record {
+        one_share = t.share_is ∙ d.one_fresh.share;
+        two_share = u.2.share_is ∙ d.two_fresh.share;
+        one_places = t.made_are.places_are;
+        two_places = u.2.made_are.places_are ∙ ap (λ (q : ℕ). q ∷ 5 ∷ 6 ∷ []) fourth;
         registry_is = ap (λ (s : Sitting). s.registry) is ∙ (t.registry_is ∙ d.one_registry);
         share_is = ap (λ (x : View). x.share) whole ∙ (let a = t.share_is in let b = u.2.share_is in let c = d.one_fresh.share in let e = d.two_fresh.share in omega (arith, workers));
         made_are = subst (λ (x : View). Made x.seen x.places (placed_from 0 both_seats)) (sym whole) (made_both one_after.knows two_after.knows registry.opening.ledger l r k u.0 u.1 t.made_are u.2.made_are);
@@ -206,3 +230,7 @@ pub closed_seven : (entries seen : List Entry) (places : List ℕ) → entries �
 closed_seven entries seen places same m all =
     let front : StartsWith entries both_seats = subst (λ (es : List Entry). StartsWith es both_seats) (sym same) (begins_with seen both_seats m.stand) in
     none_behind entries both_seats front (none_from 7 (length entries) (subst (λ (ps : List ℕ). times 7 ps ≡ once_below 7 (length entries)) m.places_are (all 7)))
+
+-- and the book is that of two workers with a limit after them
+pub closed_book : (opening ledger : LedgerView) (limit : ℕ) → opening ≡ blank limit → ledger ≡ with_entries opening ledger.entries → ledger.entries ≡ both_seats → ledger ≡ with_entries (blank limit) both_seats
+closed_book opening ledger limit start after entries = after ∙ (λ i. with_entries (start i) (entries i))

@@ -78,6 +78,17 @@ pub record HasOpen {Held : Type 0} (conn : ℕ) (desk : DeskState Held) : Type 0
   pub there : IsTrue (is_open_in desk.seen conn)
   pub loose : IsFalse desk.metered
 
+-- a desk that has a worker left, and room for three entries
+pub record IsRoomy {Held : Type 0} (desk : DeskState Held) : Type 0 where
+  pub worker : desk.opened + desk.dones < desk.share
+  pub room_is : desk.room ≡ 3
+
+-- a desk of which the connection is open, and that has such a room
+pub record HasRoom {Held : Type 0} (conn room : ℕ) (desk : DeskState Held) : Type 0 where
+  pub own : Contains desk.connections conn
+  pub there : IsTrue (is_open_in desk.seen conn)
+  pub room_is : desk.room ≡ room
+
 -- the desk's first entry opens the connection
 pub record Opened {Held : Type 0} (conn : ℕ) (before after : DeskState Held) : Type 0 where
   pub opened_at : ℕ
@@ -136,8 +147,24 @@ pub record Divided {S : Type 0} (limit : ℕ) (registry : Shared S) (one two : S
   pub two_fresh : IsFreshSeat two.knows
   pub next : two.knows.first ≡ one.knows.first + one.knows.share
 
--- the seat has all workers, its places are those from 0 to 6, where the seven entries stand, and these are the answers
-pub record Finished {S : Type 0} (registry : Shared S) (seat : Sitting) (reported imported : Option Answer) : Type 0 where
+-- a metered registry, and its two seats, which have made no entry, with one worker and room for three entries each
+pub record HaveRooms {S : Type 0} (registry : Shared S) (one two : Sitting) : Type 0 where
+  pub metered : IsTrue registry.metered
+  pub one_registry : one.registry ≡ registry.name
+  pub two_registry : two.registry ≡ registry.name
+  pub one_fresh : IsFreshSeat one.knows
+  pub two_fresh : IsFreshSeat two.knows
+  pub one_room : one.knows.room ≡ 3
+  pub two_room : two.knows.room ≡ 3
+
+-- Two seats of a share each, whose entries are the first four and the last three of the seven, and the seat that they
+-- are joined to: it has all workers, and its places are those from 0 to 6, where the seven entries stand. These are the
+-- answers.
+pub record Finished {S : Type 0} (registry : Shared S) (one two seat : Sitting) (reported imported : Option Answer) : Type 0 where
+  pub one_share : one.knows.share ≡ 1
+  pub two_share : two.knows.share ≡ 1
+  pub one_places : one.knows.places ≡ 0 ∷ 1 ∷ 2 ∷ 3 ∷ []
+  pub two_places : two.knows.places ≡ 4 ∷ 5 ∷ 6 ∷ []
   pub registry_is : seat.registry ≡ registry.name
   pub share_is : seat.knows.share ≡ registry.opening.ledger.workers
   pub made_are : Made seat.knows.seen seat.knows.places (placed_from 0 both_seats)

@@ -38,7 +38,7 @@ fn read_project(alloc: Global) -> Option<Project>
 }
 
 /// A book over the project for two workers, with such a limit.
-fn book_of(alloc: Global, limit: u32) -> Option<Book<NoShelf>>
+pub(crate) fn book_of(alloc: Global, limit: u32) -> Option<Book<NoShelf>>
     requires limit { (2 ≤ limit) × (limit ≤ 1000) }
     ensures { IfSome result (λ book. book.ledger ≡ blank limit) }
 {
@@ -82,8 +82,31 @@ pub(crate) fn opens<D: Desk<Item = ()>>(desk: &mut D, conn: u32) -> bool
     opens_any(desk) == Some(conn)
 }
 
-/// Whether the act of the connection was entered at this place.
+/// The place that was told for the act of the connection, if it is this one.
 #[tactic(auto, using(crate::proofs::Worked::entered))]
+pub(crate) fn enters_at<D: Desk<Item = ()>>(
+    desk: &mut D,
+    conn: u32,
+    act: Act,
+    place: u32,
+) -> Option<u32>
+    requires has_open { HasOpen conn (D.tells desk.old) }
+    requires act { effect_of act ≡ Asks }
+    requires unit { IsFalse (is_out_of_range (D.tells desk.old).seen.project act) }
+    requires bare { stored_unit act ≡ None }
+    ensures told { IfSome result (λ told. told ≡ place) }
+    ensures entered { IfSome result (λ told. Entered conn act place (D.tells desk.old) (D.tells desk.new)) }
+{
+    let Ok(told) = desk.ask(conn, act, None) else {
+        return None;
+    };
+    if told != place {
+        return None;
+    }
+    Some(told)
+}
+
+/// Whether the act of the connection was entered at this place.
 pub(crate) fn enters<D: Desk<Item = ()>>(desk: &mut D, conn: u32, act: Act, place: u32) -> bool
     requires has_open { HasOpen conn (D.tells desk.old) }
     requires act { effect_of act ≡ Asks }
@@ -91,14 +114,29 @@ pub(crate) fn enters<D: Desk<Item = ()>>(desk: &mut D, conn: u32, act: Act, plac
     requires bare { stored_unit act ≡ None }
     ensures { IsTrue result → Entered conn act place (D.tells desk.old) (D.tells desk.new) }
 {
-    match desk.ask(conn, act, None) {
-        Ok(entered) => entered == place,
-        Err(_) => false,
+    enters_at(desk, conn, act, place).is_some()
+}
+
+/// The place that was told for the greeting of the connection that was opened, if these are the numbers.
+#[tactic(auto, using(crate::proofs::Worked::greeted))]
+pub(crate) fn greets_at<D: Desk<Item = ()>>(
+    desk: &mut D,
+    conn: u32,
+    unit: Option<u32>,
+    place: u32,
+) -> Option<u32>
+    requires fresh { IsFresh (D.tells desk.old) }
+    requires unit { IfSome unit (λ unit. unit < unit_count (D.tells desk.old).seen.project) }
+    ensures told { IfSome result (λ told. told ≡ place) }
+    ensures greeted { IfSome result (λ told. Greeted conn unit place (D.tells desk.old) (D.tells desk.new)) }
+{
+    if !opens(desk, conn) {
+        return None;
     }
+    enters_at(desk, conn, Act::Hello { version: 1, unit }, place)
 }
 
 /// Whether the connection was opened and greeted at this place.
-#[tactic(auto, using(crate::proofs::Worked::greeted))]
 pub(crate) fn greets<D: Desk<Item = ()>>(
     desk: &mut D,
     conn: u32,
@@ -109,8 +147,5 @@ pub(crate) fn greets<D: Desk<Item = ()>>(
     requires unit { IfSome unit (λ unit. unit < unit_count (D.tells desk.old).seen.project) }
     ensures { IsTrue result → Greeted conn unit place (D.tells desk.old) (D.tells desk.new) }
 {
-    if !opens(desk, conn) {
-        return false;
-    }
-    enters(desk, conn, Act::Hello { version: 1, unit }, place)
+    greets_at(desk, conn, unit, place).is_some()
 }

@@ -17,6 +17,8 @@ mod examples;
 #[cfg(test)]
 mod ringing;
 #[cfg(test)]
+mod rooms;
+#[cfg(test)]
 mod tests;
 #[cfg(test)]
 mod two_seats;

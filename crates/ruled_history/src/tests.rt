@@ -1,6 +1,7 @@
 //! The worked examples, with memory enough.
 
 use crate::ringing::{fetches, hears, rings};
+use crate::rooms::{fills_up, visits_twice};
 use crate::two_seats::two_seats;
 use crate::two_threads::{Told, two_threads};
 use registry_core::{Answer, Entry};
@@ -52,8 +53,11 @@ fn seven_entries() -> [Entry; 7] {
 #[test]
 fn two_seats_make_seven_entries(rt: HostRuntime) -> Result<(), Fail> {
     let run = two_seats(&rt, rt.alloc()).ok_or("the places are as expected")?;
-    assert!(rt; run.reported == Some(Answer::Done));
-    assert!(rt; run.imported == Some(Answer::Path(0)));
+    let told = &run.reported;
+    assert!(rt; [told.hello, told.exported, told.compiled] == [1, 2, 3]);
+    assert!(rt; run.reported.answer == Some(Answer::Done));
+    assert!(rt; [run.imported.hello, run.imported.imported] == [5, 6]);
+    assert!(rt; run.imported.answer == Some(Answer::Path(0)));
     assert!(rt; run.book.entries() == seven_entries().as_slice());
     Ok(())
 }
@@ -103,4 +107,14 @@ fn each_entry_rings_the_bell(rt: HostRuntime) {
 #[test]
 fn a_look_sees_what_others_entered(rt: HostRuntime) {
     assert!(rt; hears(&rt, rt.alloc()));
+}
+
+#[test]
+fn seats_with_rooms_are_never_refused(rt: HostRuntime) {
+    assert!(rt; visits_twice(&rt, rt.alloc()) == Some(6));
+}
+
+#[test]
+fn a_full_history_refuses_with_its_numbers(rt: HostRuntime) {
+    assert!(rt; fills_up(&rt, rt.alloc()) == Some(2));
 }
