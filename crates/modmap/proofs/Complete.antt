@@ -160,7 +160,7 @@ module _ {L : Type 0} (outside : Outside L) (words : List (String Global)) (name
       let same : project ≡ serves.project = sym (told_project (Rose outside.file_reads_before outside.file_reads_now) name project serves.project outside.files_before outside.files_now file serves.reads) in
       let closed : how ≡ Closed = told_closed serves.project entries how (outside.octets outside.link_before) (outside.octets outside.link_now) (subst (λ some. IsSomeAnd (outside.octets outside.link_before) (IsWhole some entries)) same input) (λ e. no_read (serves.causes.read e)) (λ e. no_write (serves.causes.write e)) serves.serves in
       inl (ap status_of is ∙ ap conn_status closed)
-  all_served project ended file input no_file no_read no_write (refused kind reads link) = inr (not_taken project ended file no_file kind reads)
+  all_served project ended file input no_file no_read no_write (refused kind reads keeps link) = inr (not_taken project ended file no_file kind reads)
   all_served project ended file input no_file no_read no_write (no_memory aside is) = inr (ap status_of is)
 
   lacks : (named : List ℕ) (before now : Option Lookup) → Told (FindsProject (Rose outside.file_reads_before outside.file_reads_now) name (Err (CannotRead named))) before now → IfSome before (λ content. content name ≡ None) ⊎ Rose outside.file_reads_before outside.file_reads_now
@@ -174,7 +174,7 @@ module _ {L : Type 0} (outside : Outside L) (words : List (String Global)) (name
   fault_of_read ended (served how serves is) four =
       let so : status_of (Served how) ≡ 4 = sym (ap status_of is) ∙ four in
       inr (inr (serves.causes.read (conn_fault (λ end status. status ≡ 4 → end ≡ ReadFault) (λ e. refl) (λ e. absurd (omega (arith, e))) how (omega (arith, so)) (omega (arith, so)) so)))
-  fault_of_read ended (refused kind reads link) four = let named = file_four ended kind four in by (lacks named.0 outside.files_before outside.files_now (subst (λ e. ReadsProject outside name (Err e)) named.1 reads))
+  fault_of_read ended (refused kind reads keeps link) four = let named = file_four ended kind four in by (lacks named.0 outside.files_before outside.files_now (subst (λ e. ReadsProject outside name (Err e)) named.1 reads))
     where
       by : IfSome outside.files_before (λ content. content name ≡ None) ⊎ Rose outside.file_reads_before outside.file_reads_now → LacksFile words outside.files_before ⊎ (Rose outside.file_reads_before outside.file_reads_now ⊎ Rose outside.link_reads_before outside.link_reads_now)
       by (inl absent) = inl (record { task = Pipe name entries; asks = asks; name = name; is_read = refl; absent = absent })

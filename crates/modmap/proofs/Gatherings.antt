@@ -23,7 +23,8 @@ use Rattle.export_lists.specs.declared.cmi.Cmi.{Cmi}
 use Rattle.export_lists.specs.Listings.{built_before}
 use Rattle.mm_outside.specs.declared.files.ReadAllError.TheVariants as errors
 use Rattle.modmap.specs.declared.unit_files.Stop.{Stop}
-use Rattle.modmap.specs.Endings.{Ended, OutOfMemory, FileTooLong}
+use Rattle.modmap.specs.Endings.{Ended, OutOfMemory, CannotRead, FileTooLong}
+use Rattle.modmap.specs.ProjectFiles.{KeepsReads, at_file, for_memory}
 use Rattle.modmap.specs.ListRuns.{Fit, HoldsWithin, HoldsCmi, HoldsSource, HoldsBuilt, HoldUnits, Stay, most_source_octets, most_cmi_octets, most_by, file_by, cmi_file, RefusesFile, no_memory, too_long, RefusesUnit, as_file, as_cmi, IsNoCmiOf, ended_by, FileSo, SourceSo, TextSo, CmiSo, StopsAt, IsDeclared, BuiltHaveNames, has_failed, ended_at, other_unit}
 use Rattle.modmap.specs.declared.unit_files.Fault.TheVariants as faults
 use Rattle.export_lists.specs.declared.outcome.Outcome.{Outcome}
@@ -226,3 +227,10 @@ built_have_names project declared fit unit lt is =
     named_by (kind_of project unit) (name_of project unit) entry.built
     (subst (λ kind. MayBeBuilt kind entry.built) (sym kind_is) (can_be_built [] project.units unit entry declared.declares.units at))
     (built_at project unit true lt is) (fit unit lt)
+
+-- ---- reads that failed
+
+-- behind a stop at a file that can't be read a read may have failed
+pub unreadable_keeps : (stop : Stop) (name : List ℕ) (b n : ℕ) → (ended_by stop ≡ OutOfMemory) ⊎ (ended_by stop ≡ CannotRead name) → KeepsReads (ended_by stop) b n
+unreadable_keeps stop name b n (inl e) = for_memory e
+unreadable_keeps stop name b n (inr e) = at_file name e

@@ -1,22 +1,31 @@
 -- What is printed at an ending.
-use Rattle.std.proofs.Common.{◌≡◌, ◌⊎◌, ℕ, List, ◌++◌, length, sym, ap, subst, ◌∙◌, arith, Result, Ok, Err, Option, inl, inr}
-use Rattle.std.proofs.lemmas.List.{take_all}
+use Rattle.std.proofs.Common.{◌≡◌, ◌⊎◌, ℕ, ◌<◌, List, [], ◌++◌, length, refl, sym, ap, subst, ◌∙◌, Result, Ok, Err, Option, inl, inr}
+use Rattle.std.proofs.lemmas.List.{append-nil}
 use Rattle.mm_outside.specs.Causes.{HasCause}
 use Rattle.mm_outside.specs.Sending.{AppendsAll}
 use Rattle.mm_outside.specs.Told.{Told}
-use Rattle.mm_outside.proofs.ToldLemmas.{Told-map}
+use Rattle.mm_outside.proofs.ToldLemmas.{Told-map, Told-same}
 use Rattle.modmap.specs.declared.ending.Ending.{Ending}
 use Rattle.modmap.specs.declared.ending.Ending.TheVariants as endings
-use Rattle.modmap.specs.Endings.{Ended, OutOfMemory, Prints, Speaks, HasSinkCause, Output, Ends, Tells, message_of, status_of, told_by}
+use Rattle.modmap.specs.Endings.{Ended, OutOfMemory, Prints, RisesOnlyOver, Speaks, HasSinkCause, Output, Ends, Tells, message_of, status_of, told_by}
 
 module _ (T E : Type 0) where
   prints : (result : Result T E) (text : List ℕ) (before now : ℕ) (old new : List ℕ) → HasCause before now result → AppendsAll result text old new → Prints text before now old new
-  prints (Ok u) text before now old new cause a = record { count = length text; appended = a ∙ ap (λ t. old ++ t) (sym (take_all (length text) text (omega arith))); whole = inl (take_all (length text) text (omega arith)) }
-  prints (Err e) text before now old new cause a = record { count = a.0; appended = a.2; whole = inr cause.failed }
+  prints (Ok u) text before now old new cause a = Prints.whole a cause.kept
+  prints (Err e) text before now old new cause a = Prints.cut (record { count = a.0; proper = a.1; appended = a.2 }) cause.failed
 
   -- what was printed is the text, or a part of it where the count rose
   pub told_prints : (result : Result T E) (text : List ℕ) (before now : ℕ) (a b : Option (List ℕ)) → HasCause before now result → Told (AppendsAll result text) a b → Told (Prints text before now) a b
   told_prints result text before now a b cause = Told-map {R = AppendsAll result text} (λ x y p. prints result text before now x y cause p)
+
+  -- and the count rose only where there was something to print
+  pub rises_only : (result : Result T E) (text : List ℕ) (before now : ℕ) → HasCause before now result → 0 < length text → RisesOnlyOver text before now
+  rises_only (Ok u) text before now cause some = inl cause.kept
+  rises_only (Err e) text before now cause some = inr (some, cause.failed)
+
+-- printing nothing does nothing
+pub prints_nothing : (text : List ℕ) (faults : ℕ) (told : Option (List ℕ)) → text ≡ [] → Told (Prints text faults faults) told told
+prints_nothing text faults told empty = Told-same (λ x. Prints.whole (sym (ap (λ t. x ++ t) empty ∙ append-nil x)) refl)
 
 -- ---- endings
 
@@ -41,20 +50,20 @@ message_spoken (endings.FileTooLong name) before now x y told = told
 message_spoken (endings.Refused name line reason) before now x y told = told
 message_spoken (endings.Served how) before now x y told = told
 
-no_report : (ending : Ending) (before now : ℕ) → HasSinkCause (told_by ending) before now
-no_report endings.BadWords before now = tt
-no_report endings.OutOfMemory before now = tt
-no_report (endings.CannotRead name) before now = tt
-no_report (endings.FileTooLong name) before now = tt
-no_report (endings.Refused name line reason) before now = tt
-no_report (endings.Served how) before now = tt
+message_caused : (ending : Ending) (before now : ℕ) → RisesOnlyOver (message_of (told_by ending)) before now → HasSinkCause (told_by ending) before now
+message_caused endings.BadWords before now cause = cause
+message_caused endings.OutOfMemory before now cause = cause
+message_caused (endings.CannotRead name) before now cause = cause
+message_caused (endings.FileTooLong name) before now cause = cause
+message_caused (endings.Refused name line reason) before now cause = cause
+message_caused (endings.Served how) before now cause = cause
 
 -- so a run ends whose message was printed
-pub ends_told : {IsSo : Ended → Type 0} {status : ℕ} (ending : Ending) (output : Output) → status ≡ status_of (told_by ending) → Told (Prints (message_of (told_by ending)) output.faults_before output.faults_now) output.before output.now → IsSo (told_by ending) → Ends IsSo output status
-ends_told ending output is told so = record {
+pub ends_told : {IsSo : Ended → Type 0} {status : ℕ} (ending : Ending) (output : Output) → status ≡ status_of (told_by ending) → Told (Prints (message_of (told_by ending)) output.faults_before output.faults_now) output.before output.now → RisesOnlyOver (message_of (told_by ending)) output.faults_before output.faults_now → IsSo (told_by ending) → Ends IsSo output status
+ends_told ending output is told cause so = record {
   ending = told_by ending;
   status_is = is;
   spoken = message_spoken ending output.faults_before output.faults_now output.before output.now told;
-  cause = no_report ending output.faults_before output.faults_now;
+  cause = message_caused ending output.faults_before output.faults_now cause;
   so = so;
 }

@@ -1,9 +1,10 @@
 -- What the status of an ending tells of it.
-use Rattle.std.proofs.Common.{◌≡◌, ◌≢◌, ◌⊎◌, inl, inr, ℕ, ◌<◌, Bool, true, false, List, refl, sym, ap, subst, ◌∙◌, arith}
+use Rattle.std.proofs.Common.{◌≡◌, ◌≢◌, ◌⊎◌, inl, inr, ℕ, Bool, true, false, List, Result, Ok, Err, refl, sym, ap, subst, ◌∙◌, arith}
 use Rattle.std.specs.Prelude.{if◌then◌else◌}
 use Rattle.mm_outside.specs.Causes.{Rose}
-use Rattle.modmap.specs.Endings.{Report, Ended, BadWords, OutOfMemory, CannotRead, FileTooLong, Refused, Served, Reported, Cut, WriteFailed, EndsIn, HasSinkCause, Output, Tells, status_of}
-use Rattle.modmap.specs.ProjectFiles.{IsOfFile}
+use Rattle.connection_core.specs.declared.conn_end.ConnEnd.TheVariants.{Closed, Truncated, ReadFault, WriteFault, TooLong, BatchTooLong, HistoryFull}
+use Rattle.modmap.specs.Endings.{Report, Ended, BadWords, OutOfMemory, CannotRead, FileTooLong, Refused, Served, Reported, Cut, WriteFailed, EndsIn, HasSinkCause, Output, Ends, Tells, status_of}
+use Rattle.modmap.specs.ProjectFiles.{IsOfFile, KeepsReads, none_failed, at_file, for_memory, HasRead}
 
 -- one number isn't two
 pub differ : (n a b : ℕ) → (a ≡ b → ⊥) → n ≡ a → n ≡ b → ⊥
@@ -90,17 +91,65 @@ file_four (Reported report) kind four = absurd kind
 file_four (Cut report) kind four = absurd kind
 file_four WriteFailed kind four = absurd kind
 
--- a run that tells of a file hasn't done all
-pub file_not_done : (due : Ended) (output : Output) (status : ℕ) → IsOfFile due → Tells due output status → (status ≡ 0) ⊎ (status ≡ 1) → ⊥
-file_not_done due output status kind tells done = by done
+-- ---- reads that failed
+
+-- what was read without a fault, or an ending behind it
+pub keeps_all : {A : Type 0} (result : Result A Ended) (b n : ℕ) → n ≡ b → HasRead result b n
+keeps_all (Ok read) b n kept = kept
+keeps_all (Err ended) b n kept = none_failed kept
+
+-- no read failed before
+pub keeps_since : (ended : Ended) (b mid n : ℕ) → mid ≡ b → KeepsReads ended mid n → KeepsReads ended b n
+keeps_since ended b mid n same keeps = subst (λ (before : ℕ). KeepsReads ended before n) same keeps
+
+-- a status that is neither that of a file that can't be read nor of want of memory
+pub reads_kept : (ended : Ended) (b n : ℕ) → KeepsReads ended b n → status_of ended ≢ 3 → status_of ended ≢ 4 → n ≡ b
+reads_kept ended b n (none_failed kept) three four = kept
+reads_kept ended b n (at_file named is) three four = absurd (four (ap status_of is))
+reads_kept ended b n (for_memory is) three four = absurd (three (ap status_of is))
+
+-- the same of a run that tells of its ending
+pub kept_told : (due : Ended) (output : Output) (status : ℕ) (b n : ℕ) → KeepsReads due b n → Tells due output status → status ≢ 3 → status ≢ 4 → n ≡ b
+kept_told due output status b n keeps tells three four = by tells.so
   where
-    kind_of : (ended : Ended) → (ended ≡ due) ⊎ (ended ≡ OutOfMemory) → IsOfFile ended
-    kind_of ended (inl e) = subst IsOfFile (sym e) kind
-    kind_of ended (inr e) = subst IsOfFile (sym e) tt
+    by : (tells.ending ≡ due) ⊎ (tells.ending ≡ OutOfMemory) → n ≡ b
+    by (inl e) = reads_kept due b n keeps (λ k. three (tells.status_is ∙ ap status_of e ∙ k)) (λ k. four (tells.status_is ∙ ap status_of e ∙ k))
+    by (inr e) = absurd (three (tells.status_is ∙ ap status_of e))
 
-    never : (n : ℕ) → (3 ≡ n → ⊥) → (4 ≡ n → ⊥) → (6 ≡ n → ⊥) → status ≡ n → ⊥
-    never n three_not four_not six_not is = file_never tells.ending n (kind_of tells.ending tells.so) three_not four_not six_not (sym tells.status_is ∙ is)
+-- ---- the sink
 
-    by : (status ≡ 0) ⊎ (status ≡ 1) → ⊥
-    by (inl e) = never 0 (λ d. omega (arith, d)) (λ d. omega (arith, d)) (λ d. omega (arith, d)) e
-    by (inr e) = never 1 (λ d. omega (arith, d)) (λ d. omega (arith, d)) (λ d. omega (arith, d)) e
+-- what is done has no fault of the sink behind it
+sink_well : (ended : Ended) (b n : ℕ) → HasSinkCause ended b n → (status_of ended ≡ 0) ⊎ (status_of ended ≡ 1) → n ≡ b
+sink_well BadWords b n cause (inl done) = absurd (omega (arith, done))
+sink_well BadWords b n cause (inr done) = absurd (omega (arith, done))
+sink_well OutOfMemory b n cause (inl done) = absurd (omega (arith, done))
+sink_well OutOfMemory b n cause (inr done) = absurd (omega (arith, done))
+sink_well (CannotRead named) b n cause (inl done) = absurd (omega (arith, done))
+sink_well (CannotRead named) b n cause (inr done) = absurd (omega (arith, done))
+sink_well (FileTooLong named) b n cause (inl done) = absurd (omega (arith, done))
+sink_well (FileTooLong named) b n cause (inr done) = absurd (omega (arith, done))
+sink_well (Refused named line reason) b n cause (inl done) = absurd (omega (arith, done))
+sink_well (Refused named line reason) b n cause (inr done) = absurd (omega (arith, done))
+sink_well (Served Closed) b n (inl kept) done = kept
+sink_well (Served Closed) b n (inr rose) done = absurd (omega (arith, rose.0))
+sink_well (Served (Truncated lines)) b n cause (inl done) = absurd (omega (arith, done))
+sink_well (Served (Truncated lines)) b n cause (inr done) = absurd (omega (arith, done))
+sink_well (Served ReadFault) b n cause (inl done) = absurd (omega (arith, done))
+sink_well (Served ReadFault) b n cause (inr done) = absurd (omega (arith, done))
+sink_well (Served WriteFault) b n cause (inl done) = absurd (omega (arith, done))
+sink_well (Served WriteFault) b n cause (inr done) = absurd (omega (arith, done))
+sink_well (Served TooLong) b n cause (inl done) = absurd (omega (arith, done))
+sink_well (Served TooLong) b n cause (inr done) = absurd (omega (arith, done))
+sink_well (Served BatchTooLong) b n cause (inl done) = absurd (omega (arith, done))
+sink_well (Served BatchTooLong) b n cause (inr done) = absurd (omega (arith, done))
+sink_well (Served (HistoryFull entries room)) b n cause (inl done) = absurd (omega (arith, done))
+sink_well (Served (HistoryFull entries room)) b n cause (inr done) = absurd (omega (arith, done))
+sink_well (Reported report) b n cause done = cause
+sink_well (Cut report) b n cause (inl done) = absurd (omega (arith, done))
+sink_well (Cut report) b n cause (inr done) = absurd (omega (arith, done))
+sink_well WriteFailed b n cause (inl done) = absurd (omega (arith, done))
+sink_well WriteFailed b n cause (inr done) = absurd (omega (arith, done))
+
+pub ends_well : {IsSo : Ended → Type 0} {output : Output} {status : ℕ} → Ends IsSo output status → (status ≡ 0) ⊎ (status ≡ 1) → output.faults_now ≡ output.faults_before
+ends_well {output} run (inl done) = sink_well run.ending output.faults_before output.faults_now run.cause (inl (sym run.status_is ∙ done))
+ends_well {output} run (inr done) = sink_well run.ending output.faults_before output.faults_now run.cause (inr (sym run.status_is ∙ done))

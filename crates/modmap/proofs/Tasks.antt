@@ -1,5 +1,5 @@
 -- What holds of a run, by the task that its words ask for.
-use Rattle.std.proofs.Common.{◌≡◌, ◌≢◌, ◌⊎◌, inl, inr, ℕ, ◌+◌, ◌<◌, ◌≤◌, List, [], ◌∷◌, length, map, Option, Some, None, Err, IfSome, refl, sym, ap, subst, ◌∙◌, arith}
+use Rattle.std.proofs.Common.{◌≡◌, ◌≢◌, ◌⊎◌, inl, inr, ℕ, ◌<◌, ◌≤◌, List, length, map, Option, Some, None, Err, IfSome, refl, sym, ap, subst, ◌∙◌, arith}
 use Rattle.std.proofs.lemmas.Option.{none-some}
 use Rattle.std.specs.Prelude.{IsSomeAnd, String, string_bytes}
 use Rattle.std.specs.declared.alloc.Global.{Global}
@@ -162,6 +162,9 @@ module _ {L : Type 0} (outside : Outside L) where
   abbrev writes_failed : Type 0
   writes_failed = Rose outside.file_writes_before outside.file_writes_now
 
+  abbrev writes_kept : Type 0
+  writes_kept = outside.file_writes_now ≡ outside.file_writes_before
+
   pub ends_same : (task other : Task) (output : Output) (status : ℕ) → other ≡ task → Ends (DoesTask outside task) output status → Ends (DoesTask outside other) output status
   ends_same task other output status same run = subst (λ some. Ends (DoesTask outside some) output status) (sym same) run
 
@@ -170,7 +173,7 @@ module _ {L : Type 0} (outside : Outside L) where
   task_two (Check project trace) ended h = report_two files_failed outside.files_before outside.files_now check_report project trace ended h.reports_so
   task_two (Replay project trace) ended h = report_two files_failed outside.files_before outside.files_now replay_report project trace ended h.reports_so
   task_two (ListUnits project) ended h = list_two files_failed outside.files_before outside.files_now project ended h.lists_so
-  task_two (Generate folder units seed) ended h = gen_never writes_failed outside.files_before outside.files_now folder units seed ended 2 h.generates_so (λ e. omega (arith, e)) (λ e. omega (arith, e)) (λ e. omega (arith, e))
+  task_two (Generate folder units seed) ended h = gen_never writes_failed writes_kept outside.files_before outside.files_now folder units seed ended 2 h.generates_so (λ e. omega (arith, e)) (λ e. omega (arith, e)) (λ e. omega (arith, e))
 
   -- only a report ends with 1
   pub task_one : (task : Task) (ended : Ended) → DoesTask outside task ended → status_of ended ≡ 1 → IsReport task
@@ -178,7 +181,7 @@ module _ {L : Type 0} (outside : Outside L) where
   task_one (Check project trace) ended h one = tt
   task_one (Replay project trace) ended h one = tt
   task_one (ListUnits project) ended h one = tt
-  task_one (Generate folder units seed) ended h one = gen_never writes_failed outside.files_before outside.files_now folder units seed ended 1 h.generates_so (λ e. omega (arith, e)) (λ e. omega (arith, e)) (λ e. omega (arith, e)) one
+  task_one (Generate folder units seed) ended h one = gen_never writes_failed writes_kept outside.files_before outside.files_now folder units seed ended 1 h.generates_so (λ e. omega (arith, e)) (λ e. omega (arith, e)) (λ e. omega (arith, e)) one
 
   pub task_untouched : (task : Task) (ended : Ended) (status : ℕ) → status ≡ status_of ended → DoesTask outside task ended → (status ≡ 2) ⊎ ((status ≡ 3) ⊎ (status ≡ 6)) → outside.link_now ≡ outside.link_before
   task_untouched (Pipe project entries) ended status is h some = untouched outside project entries ended status is h some
@@ -192,7 +195,7 @@ module _ {L : Type 0} (outside : Outside L) where
   task_five (Check project trace) ended b n h cause five = inr (inr (report_five files_failed outside.files_before outside.files_now check_report project trace ended b n h.reports_so cause five))
   task_five (Replay project trace) ended b n h cause five = inr (inr (report_five files_failed outside.files_before outside.files_now replay_report project trace ended b n h.reports_so cause five))
   task_five (ListUnits project) ended b n h cause five = inr (inr (list_five files_failed outside.files_before outside.files_now project ended b n h.lists_so cause five))
-  task_five (Generate folder units seed) ended b n h cause five = inr (gen_five writes_failed outside.files_before outside.files_now folder units seed ended b n h.generates_so cause five)
+  task_five (Generate folder units seed) ended b n h cause five = inr (gen_five writes_failed writes_kept outside.files_before outside.files_now folder units seed ended b n h.generates_so cause five)
 
   spares : (P : List ℕ → Type 0) → Told (λ (old new : Lookup). new ≡ old) outside.files_before outside.files_now → Told (λ (old new : Lookup). (name : List ℕ) → P name → new name ≡ old name) outside.files_before outside.files_now
   spares P told = Told-map (λ x y same. λ name spared. ap (λ (content : Lookup). content name) same) told
@@ -203,7 +206,7 @@ module _ {L : Type 0} (outside : Outside L) where
   task_spares (Check project trace) ended h = spares (IsSparedBy (Check project trace)) (report_stays files_failed outside.files_before outside.files_now project trace check_report ended h.reports_so)
   task_spares (Replay project trace) ended h = spares (IsSparedBy (Replay project trace)) (report_stays files_failed outside.files_before outside.files_now project trace replay_report ended h.reports_so)
   task_spares (ListUnits project) ended h = spares (IsSparedBy (ListUnits project)) (list_stays files_failed outside.files_before outside.files_now project ended h.lists_so)
-  task_spares (Generate folder units seed) ended h = gen_others writes_failed outside.files_before outside.files_now folder units seed ended h.generates_so
+  task_spares (Generate folder units seed) ended h = gen_others writes_failed writes_kept outside.files_before outside.files_now folder units seed ended h.generates_so
 
   module _ (words : List (String Global)) where
     -- a file that is absent, or a read that failed
@@ -224,11 +227,17 @@ module _ {L : Type 0} (outside : Outside L) where
         by : LacksFile words outside.files_before ⊎ files_failed → LacksFile words outside.files_before ⊎ (files_failed ⊎ Rose outside.link_reads_before outside.link_reads_now)
         by (inl lacks) = inl lacks
         by (inr rose) = inr (inl rose)
-    task_four (Generate folder units seed) ended asks h four = absurd (gen_never writes_failed outside.files_before outside.files_now folder units seed ended 4 h.generates_so (λ e. omega (arith, e)) (λ e. omega (arith, e)) (λ e. omega (arith, e)) four)
+    task_four (Generate folder units seed) ended asks h four = absurd (gen_never writes_failed writes_kept outside.files_before outside.files_now folder units seed ended 4 h.generates_so (λ e. omega (arith, e)) (λ e. omega (arith, e)) (λ e. omega (arith, e)) four)
 
     -- the files that the words don't ask to write are as they were
     pub task_keeps : (task : Task) (ended : Ended) → AsksFor (map string_bytes words) task → DoesTask outside task ended → Told (KeepsOthers words) outside.files_before outside.files_now
     task_keeps task ended asks h = Told-map (λ x y kept. λ name spared. kept name (spared task asks)) (task_spares task ended h)
+
+    -- where a project is to be generated, no read fails
+    pub task_reads : (task : Task) (ended : Ended) → AsksFor (map string_bytes words) task → DoesTask outside task ended → AsksToWrite words → outside.file_reads_now ≡ outside.file_reads_before
+    task_reads task ended asks h there =
+        let so : DoesTask outside (Generate there.folder there.units there.seed) ended = subst (λ some. DoesTask outside some ended) (one_task (map string_bytes words) task (Generate there.folder there.units there.seed) asks there.asks) h in
+        so.reads
 
     -- what is served whole is served to its end
     task_completes : (task : Task) (ended : Ended) → AsksFor (map string_bytes words) task → DoesTask outside task ended → IsAllThere words outside.files_before (outside.octets outside.link_before)
@@ -268,7 +277,7 @@ module _ {L : Type 0} (outside : Outside L) where
         → (writes_failed → ⊥) → (Rose b n → ⊥) → (status_of ended ≡ 0) ⊎ (status_of ended ≡ 3)
     task_generates task ended b n asks h cause there no_file no_fault =
         let so : DoesTask outside (Generate there.folder there.units there.seed) ended = subst (λ some. DoesTask outside some ended) (one_task (map string_bytes words) task (Generate there.folder there.units there.seed) asks there.asks) h in
-        gen_whole writes_failed outside.files_before outside.files_now there.folder there.units there.seed ended b n no_file no_fault so.generates_so cause
+        gen_whole writes_failed writes_kept outside.files_before outside.files_now there.folder there.units there.seed ended b n no_file no_fault so.generates_so cause
 
     -- where nothing hinders a task, it's done whole
     pub task_whole : (output : Output) (task : Task) (ended : Ended) (status : ℕ) → AsksFor (map string_bytes words) task → status ≡ status_of ended → DoesTask outside task ended → HasSinkCause ended output.faults_before output.faults_now

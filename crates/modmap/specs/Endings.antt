@@ -106,30 +106,35 @@ message_room (Reported report) = frame_room
 message_room (Cut report) = frame_room
 message_room WriteFailed = frame_room
 
--- a text was appended, or a part of it where the count of faults rose
-pub record Prints (text : List ℕ) (faults_before faults_now : ℕ) (old new : List ℕ) : Type 0 where
-  pub count : ℕ
-  pub appended : new ≡ old ++ take count text
-  pub whole : (take count text ≡ text) ⊎ Rose faults_before faults_now
-
 -- a proper part of the text was appended
 pub record IsCut (text : List ℕ) (old new : List ℕ) : Type 0 where
   pub count : ℕ
   pub proper : count < length text
   pub appended : new ≡ old ++ take count text
 
--- What is printed at an ending: the whole report, or a proper part of one; else the message, or a part of it where a
--- write failed.
+-- A text was appended whole, and the count of faults is as it was; or a proper part of it, and the count rose. So
+-- nothing is written behind a fault.
+pub data Prints (text : List ℕ) (faults_before faults_now : ℕ) (old new : List ℕ) : Type 0 where
+  whole : new ≡ old ++ text → faults_now ≡ faults_before → Prints text faults_before faults_now old new
+  cut : IsCut text old new → Rose faults_before faults_now → Prints text faults_before faults_now old new
+
+-- What is printed at an ending: the whole report, or a proper part of one; else the message, or a proper part of it where
+-- a write failed.
 abbrev pub Speaks : Ended → ℕ → ℕ → List ℕ → List ℕ → Type 0
 Speaks (Reported report) faults_before faults_now old new = new ≡ old ++ report.text
 Speaks (Cut report) faults_before faults_now old new = IsCut report.text old new
 Speaks ended faults_before faults_now old new = Prints (message_of ended) faults_before faults_now old new
 
--- a report is cut short only where a write failed, and stands whole only where none did
+-- the count of faults is as it was; or it rose, and there was something to print
+abbrev pub RisesOnlyOver : List ℕ → ℕ → ℕ → Type 0
+RisesOnlyOver text faults_before faults_now = (faults_now ≡ faults_before) ⊎ ((0 < length text) × Rose faults_before faults_now)
+
+-- A report is cut short only where a write failed, and stands whole only where none did. Where there is no message, no
+-- write fails.
 abbrev pub HasSinkCause : Ended → ℕ → ℕ → Type 0
 HasSinkCause (Reported report) faults_before faults_now = faults_now ≡ faults_before
 HasSinkCause (Cut report) faults_before faults_now = Rose faults_before faults_now
-HasSinkCause ended faults_before faults_now = Unit {0}
+HasSinkCause ended faults_before faults_now = RisesOnlyOver (message_of ended) faults_before faults_now
 
 -- what a sink tells before and after a call, and how often its writes have failed
 pub record Output : Type 0 where

@@ -69,11 +69,11 @@ wrote_report count = record { text = wrote_text count; good = true }
 abbrev pub capacity_of : Buffer → ℕ
 capacity_of buffer = buffer.spare + length buffer.octets
 
-module _ (failed : Type 0) (before now : Option Lookup) where
+module _ (failed kept : Type 0) (before now : Option Lookup) where
   -- What `gen` comes to, by its ending: all files were written, and it ends with the report of their number; or a
   -- write of a file failed, and no further file was written; or memory was wanted, before any file was written.
-  -- `failed` says that a write of a file failed.
+  -- `failed` says that a write of a file failed, and `kept` that none did.
   pub data GeneratesSo (folder : List ℕ) (units seed : ℕ) (ended : Ended) : Type 0 where
-    all_written : Told (HoldTexts (generated_files folder units seed)) before now → EndsIn (wrote_report (units + 1)) ended → GeneratesSo folder units seed ended
+    all_written : Told (HoldTexts (generated_files folder units seed)) before now → kept → EndsIn (wrote_report (units + 1)) ended → GeneratesSo folder units seed ended
     write_stopped : Told (StopsWithin (generated_files folder units seed)) before now → failed → ended ≡ WriteFailed → GeneratesSo folder units seed ended
-    none_written : Told (λ (old new : Lookup). new ≡ old) before now → ended ≡ OutOfMemory → GeneratesSo folder units seed ended
+    none_written : Told (λ (old new : Lookup). new ≡ old) before now → kept → ended ≡ OutOfMemory → GeneratesSo folder units seed ended

@@ -149,6 +149,11 @@ abbrev pub ended_by : Stop → Ended
 ended_by stop.Memory = OutOfMemory
 ended_by (stop.File name fault) = ended_at name fault
 
+-- what was read, with what a stop tells in place of it
+abbrev pub stopped_as : {A : Type 0} → Result A Stop → Result A Ended
+stopped_as (Ok read) = Ok read
+stopped_as (Err stop) = Err (ended_by stop)
+
 -- what the files of all units are read as
 abbrev pub GathersSo : Type 0 → ProjectView → Result Gathered Stop → Lookup → Type 0
 GathersSo failed project (Ok gathered) content = HoldUnits project content (unit_count project) gathered.sources gathered.built

@@ -16,7 +16,7 @@ use Rattle.modmap.specs.Commands.{Task, Pipe, Check, Replay, ListUnits, Generate
 use Rattle.modmap.specs.Endings.{Ended, BadWords, OutOfMemory, Served, Report, Output}
 use Rattle.modmap.specs.Generating.{GeneratesSo, generated_files}
 use Rattle.modmap.specs.ListRuns.{HoldsAll, IsUnitFile, ListsSo}
-use Rattle.modmap.specs.ProjectFiles.{DeclaresProject, FindsProject, IsOfFile}
+use Rattle.modmap.specs.ProjectFiles.{DeclaresProject, FindsProject, IsOfFile, KeepsReads}
 use Rattle.modmap.specs.Reports.{ReportsSo, check_report}
 use Rattle.modmap.specs.Replays.{replay_report}
 use Rattle.modmap.specs.Serving.{ServesAlone}
@@ -57,12 +57,21 @@ outside_of content file_reads file_writes octets link_reads link_writes files_ol
 }
 
 module _ {L : Type 0} (outside : Outside L) where
-  -- no read and no write of the files or of the link failed
-  pub record HasNoFault : Type 0 where
+  -- no read and no write of the files or of the link failed, nor a write of the sink
+  pub record HasNoFault (output : Output) : Type 0 where
     pub file_reads : outside.file_reads_now ≡ outside.file_reads_before
     pub file_writes : outside.file_writes_now ≡ outside.file_writes_before
     pub link_reads : outside.link_reads_now ≡ outside.link_reads_before
     pub link_writes : outside.link_writes_now ≡ outside.link_writes_before
+    pub sink_writes : output.faults_now ≡ output.faults_before
+
+  -- A read or a write that failed isn't tried again: behind a status that isn't the one of its fault its count is as it
+  -- was. Behind want of memory a read of a file may have failed, since its message wants memory too.
+  pub record TriesOnce (status : ℕ) : Type 0 where
+    pub file_reads : status ≢ 3 → status ≢ 4 → outside.file_reads_now ≡ outside.file_reads_before
+    pub file_writes : status ≢ 5 → outside.file_writes_now ≡ outside.file_writes_before
+    pub link_reads : status ≢ 4 → outside.link_reads_now ≡ outside.link_reads_before
+    pub link_writes : status ≢ 5 → outside.link_writes_now ≡ outside.link_writes_before
 
   -- the project file of this name was read as this
   abbrev pub ReadsProject : List ℕ → Result ProjectView Ended → Type 0
@@ -85,7 +94,7 @@ module _ {L : Type 0} (outside : Outside L) where
   -- the project file isn't taken, and the link is as it was; or memory was wanted, and all is as it was.
   pub data Pipes (name : List ℕ) (entries : ℕ) (ended : Ended) : Type 0 where
     served : (how : ConnEnd) → ServesProject name entries how → ended ≡ Served how → Pipes name entries ended
-    refused : IsOfFile ended → ReadsProject name (Err ended) → outside.link_now ≡ outside.link_before → Pipes name entries ended
+    refused : IsOfFile ended → ReadsProject name (Err ended) → KeepsReads ended outside.file_reads_before outside.file_reads_now → outside.link_now ≡ outside.link_before → Pipes name entries ended
     no_memory : StaysAside → ended ≡ OutOfMemory → Pipes name entries ended
 
   -- what a report over these two files comes to, by its ending; the link is as it was
@@ -98,9 +107,10 @@ module _ {L : Type 0} (outside : Outside L) where
     pub lists_so : ListsSo (Rose outside.file_reads_before outside.file_reads_now) outside.files_before outside.files_now name ended
     pub link : outside.link_now ≡ outside.link_before
 
-  -- what generating a project in this folder comes to, by its ending; the link is as it was
+  -- what generating a project in this folder comes to, by its ending; no read failed, and the link is as it was
   pub record GeneratesAside (folder : List ℕ) (units seed : ℕ) (ended : Ended) : Type 0 where
-    pub generates_so : GeneratesSo (Rose outside.file_writes_before outside.file_writes_now) outside.files_before outside.files_now folder units seed ended
+    pub generates_so : GeneratesSo (Rose outside.file_writes_before outside.file_writes_now) (outside.file_writes_now ≡ outside.file_writes_before) outside.files_before outside.files_now folder units seed ended
+    pub reads : outside.file_reads_now ≡ outside.file_reads_before
     pub link : outside.link_now ≡ outside.link_before
 
   -- a task was done to this ending

@@ -6,7 +6,7 @@ ghost use Rattle.mm_outside.specs.Told.{Told};
 ghost use Rattle.cody_words.specs.Canonical.{word_room};
 ghost use Rattle.modmap.specs.Endings.{Ends, frame_room, message_room, output_of, reason_room, told_by};
 ghost use Rattle.modmap.specs.Commands.{Generate, task_of, AsksFor};
-ghost use Rattle.modmap.specs.Running.{AsksNothing, AsksToReport, AsksToWrite, Does, DoesTask, HasNoFault, KeepsOthers, LacksFile, NothingHinders, Pipes, outside_of};
+ghost use Rattle.modmap.specs.Running.{AsksNothing, AsksToReport, AsksToWrite, Does, DoesTask, HasNoFault, KeepsOthers, LacksFile, NothingHinders, Pipes, TriesOnce, outside_of};
 
 use crate::check::run_check;
 use crate::command::Command;
@@ -79,7 +79,7 @@ fn run_command<F: Files, L: Link, K: Sink>(
     requires { (words : List (List ℕ)) × AsksFor words (task_of command) }
     ensures run { Ends (DoesTask (outside_of F.content F.read_faults F.write_faults L.octets L.read_faults L.write_faults files.old files.new link.old link.new) (task_of command.entry))
         (output_of K.written K.faults out.old out.new) result }
-    ensures unfailing { (result ≡ 0) ⊎ (result ≡ 1) → HasNoFault (outside_of F.content F.read_faults F.write_faults L.octets L.read_faults L.write_faults files.old files.new link.old link.new) }
+    ensures once { TriesOnce (outside_of F.content F.read_faults F.write_faults L.octets L.read_faults L.write_faults files.old files.new link.old link.new) result }
     ensures files { ((folder : List ℕ) (units seed : ℕ) → task_of command.entry ≡ Generate folder units seed → ⊥) → F.write_faults files.new ≡ F.write_faults files.old }
 {
     match command {
@@ -113,11 +113,15 @@ pub fn run_alone<R, F: Files, L: Link, K: Sink>(
         (output_of K.written K.faults out.old out.new) result }
     ensures words { (result ≡ 2) ↔ AsksNothing words.now }
     ensures untouched { (result ≡ 2) ⊎ ((result ≡ 3) ⊎ (result ≡ 6)) → link.new ≡ link.old }
+    ensures idle { result ≡ 2 → files.new ≡ files.old }
     ensures read_fault { result ≡ 4 → LacksFile words.now (F.content files.old) ⊎ Rose (F.read_faults files.old) (F.read_faults files.new) ⊎ Rose (L.read_faults link.old) (L.read_faults link.new) }
     ensures write_fault { result ≡ 5 → Rose (L.write_faults link.old) (L.write_faults link.new) ⊎ Rose (F.write_faults files.old) (F.write_faults files.new) ⊎ Rose (K.faults out.old) (K.faults out.new) }
 
-    // What is done has no fault behind it.
-    ensures unfailing { (result ≡ 0) ⊎ (result ≡ 1) → HasNoFault (outside_of F.content F.read_faults F.write_faults L.octets L.read_faults L.write_faults files.old files.new link.old link.new) }
+    // What is done has no fault behind it. A read or a write that failed isn't tried again, and `gen` reads no file.
+    ensures unfailing { (result ≡ 0) ⊎ (result ≡ 1) → HasNoFault (outside_of F.content F.read_faults F.write_faults L.octets L.read_faults L.write_faults files.old files.new link.old link.new)
+        (output_of K.written K.faults out.old out.new) }
+    ensures once { TriesOnce (outside_of F.content F.read_faults F.write_faults L.octets L.read_faults L.write_faults files.old files.new link.old link.new) result }
+    ensures reads { AsksToWrite words.now → F.read_faults files.new ≡ F.read_faults files.old }
 
     // Only `gen` writes files, and no others than those of its project.
     ensures others { Told (KeepsOthers words.now) (F.content files.old) (F.content files.new) }

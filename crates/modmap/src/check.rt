@@ -1,6 +1,6 @@
 //! Saying whether a trace is legal.
 
-ghost use Rattle.std.specs.Prelude.{◌≡◌, ◌⊎◌, ◌≤◌, [], IfOk, OnErr};
+ghost use Rattle.std.specs.Prelude.{◌≡◌, ◌≢◌, ◌≤◌, [], IfOk, OnErr};
 ghost use Rattle.mm_outside.specs.Causes.{Rose};
 ghost use Rattle.modmap.specs.Endings.{Ends, Issues, output_of};
 ghost use Rattle.modmap.specs.Reports.{ReportsSo, check_report, illegal_report, legal_report};
@@ -97,7 +97,7 @@ pub fn run_check<F: Files, K: Sink>(
 ) -> u8
     ensures run { Ends (ReportsSo (Rose (F.read_faults files.old) (F.read_faults files.new)) (F.content files.old) (F.content files.new) check_report project.now trace.now)
         (output_of K.written K.faults out.old out.new) result }
-    ensures unfailing { (result ≡ 0) ⊎ (result ≡ 1) → F.read_faults files.new ≡ F.read_faults files.old }
+    ensures read_once { result ≢ 3 → result ≢ 4 → F.read_faults files.new ≡ F.read_faults files.old }
     ensures files { F.write_faults files.new ≡ F.write_faults files.old }
 {
     match read_sources(alloc, project, trace, files) {

@@ -141,10 +141,9 @@ pub fn run_gen<F: Files, K: Sink>(
 ) -> u8
     requires folder { length folder.now ≤ 400 }
     requires units { units ≤ 2000 }
-    ensures run { Ends (GeneratesSo (Rose (F.write_faults files.old) (F.write_faults files.new)) (F.content files.old) (F.content files.new) folder.now units seed)
+    ensures run { Ends (GeneratesSo (Rose (F.write_faults files.old) (F.write_faults files.new)) (F.write_faults files.new ≡ F.write_faults files.old) (F.content files.old) (F.content files.new) folder.now units seed)
         (output_of K.written K.faults out.old out.new) result }
     ensures read_faults { F.read_faults files.new ≡ F.read_faults files.old }
-    ensures unfailing { result ≡ 0 → F.write_faults files.new ≡ F.write_faults files.old }
 {
     let Ok(mut text) = LineBuf::new(alloc, folder.len() as u32 + ROOM) else {
         return tell_memory(out);

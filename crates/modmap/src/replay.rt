@@ -1,6 +1,6 @@
 //! Replaying a trace: its entries, and the replies that come with each.
 
-ghost use Rattle.std.specs.Prelude.{◌≡◌, ◌⊎◌, ◌≤◌, ◌<◌, ◌+◌, ◌^◌, ◌==◌, ◌||◌, ◌++◌, [], None, length, filter, slice_get, option_map, Some, min, false, IfOk, OnErr, vec_capacity};
+ghost use Rattle.std.specs.Prelude.{◌≡◌, ◌≢◌, ◌≤◌, ◌<◌, ◌+◌, ◌^◌, ◌==◌, ◌||◌, ◌++◌, [], None, length, filter, slice_get, option_map, Some, min, false, IfOk, OnErr, vec_capacity};
 ghost use Rattle.mm_outside.specs.Causes.{HasCause, Rose};
 ghost use Rattle.mm_outside.specs.Sending.{AppendsAll};
 ghost use Rattle.mm_outside.specs.Told.{Told};
@@ -595,7 +595,7 @@ pub fn run_replay<F: Files, K: Sink>(
 ) -> u8
     ensures run { Ends (ReportsSo (Rose (F.read_faults files.old) (F.read_faults files.new)) (F.content files.old) (F.content files.new) replay_report project.now trace.now)
         (output_of K.written K.faults out.old out.new) result }
-    ensures unfailing { (result ≡ 0) ⊎ (result ≡ 1) → F.read_faults files.new ≡ F.read_faults files.old }
+    ensures read_once { result ≢ 3 → result ≢ 4 → F.read_faults files.new ≡ F.read_faults files.old }
     ensures files { F.write_faults files.new ≡ F.write_faults files.old }
 {
     match read_sources(alloc, project, trace, files) {

@@ -1,9 +1,9 @@
 //! Printing how a run ended.
 
-ghost use Rattle.std.specs.Prelude.{◌≡◌, ◌≤◌, ◌+◌, [], IfOk};
+ghost use Rattle.std.specs.Prelude.{◌≡◌, ◌≤◌, ◌<◌, ◌+◌, [], length, IfOk};
 ghost use Rattle.mm_outside.specs.Told.{Told};
 ghost use Rattle.cody_words.specs.Canonical.{word_room};
-ghost use Rattle.modmap.specs.Endings.{OutOfMemory, frame_room, message_room, output_of, reason_room, told_by, Issues, Prints, Tells};
+ghost use Rattle.modmap.specs.Endings.{OutOfMemory, frame_room, message_room, output_of, reason_room, told_by, Issues, Prints, RisesOnlyOver, Tells};
 
 use crate::ending::Ending;
 use cody_words::LineBuf;
@@ -16,11 +16,24 @@ const FRAME_ROOM: u32 = 60;
 /// The most octets of the reason of a project file's first fault.
 const REASON_ROOM: usize = 20;
 
-/// Prints a text, whole unless a write fails, which changes no status.
-pub fn print_text<K: Sink>(text: &[u8], out: &mut K)
-    ensures { Told (Prints text.now (K.faults out.old) (K.faults out.new)) (K.written out.old) (K.written out.new) }
+/// Prints a text that isn't empty, whole unless a write fails.
+fn print_some<K: Sink>(text: &[u8], out: &mut K)
+    requires { 0 < length text.now }
+    ensures written { Told (Prints text.now (K.faults out.old) (K.faults out.new)) (K.written out.old) (K.written out.new) }
+    ensures cause { RisesOnlyOver text.now (K.faults out.old) (K.faults out.new) }
 {
     let _ = print(out, text);
+}
+
+/// Prints a text, whole unless a write fails, which changes no status. Behind a failed write nothing more is written.
+pub fn print_text<K: Sink>(text: &[u8], out: &mut K)
+    ensures written { Told (Prints text.now (K.faults out.old) (K.faults out.new)) (K.written out.old) (K.written out.new) }
+    ensures cause { RisesOnlyOver text.now (K.faults out.old) (K.faults out.new) }
+{
+    if text.is_empty() {
+        return;
+    }
+    print_some(text, out)
 }
 
 /// A buffer with room for a message with this name and a reason of so many octets.

@@ -5,7 +5,9 @@ use Rattle.modmap.specs.Commands.{task_of, AsksFor}
 use Rattle.modmap.specs.Endings.{BadWords}
 use Rattle.modmap.specs.Running.{nothing, asked}
 use Rattle.modmap.proofs.PrintLemmas.{ends_map}
-use Rattle.modmap.proofs.Tasks.{none_whole, task_one, task_two, task_untouched, task_four, task_five, task_keeps, task_whole}
+use Rattle.modmap.proofs.Tasks.{none_whole, task_one, task_two, task_untouched, task_four, task_five, task_keeps, task_reads, task_whole}
+use Rattle.modmap.proofs.Runnings.{done_well}
+use Rattle.modmap.proofs.Statuses.{ends_well}
 use Rattle.modmap.proofs.alone.run_alone.Goals as goal
 
 pub returns-in-Some-clause-run : goal.returns-in-Some-clause-run
@@ -21,6 +23,11 @@ returns-in-Some-clause-untouched g c =
     let run = c.run_command.ensures.run in
     task_untouched _ (task_of c.in-Some.command) run.ending _ run.status_is run.so
 
+pub returns-in-Some-clause-idle : goal.returns-in-Some-clause-idle
+returns-in-Some-clause-idle g c = λ two.
+    let run = c.run_command.ensures.run in
+    absurd (task_two _ (task_of c.in-Some.command) run.ending run.so (sym run.status_is ∙ two))
+
 pub returns-in-Some-clause-read_fault : goal.returns-in-Some-clause-read_fault
 returns-in-Some-clause-read_fault g c = λ four.
     let run = c.run_command.ensures.run in
@@ -30,6 +37,14 @@ pub returns-in-Some-clause-write_fault : goal.returns-in-Some-clause-write_fault
 returns-in-Some-clause-write_fault g c = λ five.
     let run = c.run_command.ensures.run in
     task_five _ (task_of c.in-Some.command) run.ending _ _ run.so run.cause (sym run.status_is ∙ five)
+
+pub returns-in-Some-clause-unfailing : goal.returns-in-Some-clause-unfailing
+returns-in-Some-clause-unfailing g c = λ done. done_well _ _ _ c.run_command.ensures.once (ends_well c.run_command.ensures.run done) done
+
+pub returns-in-Some-clause-reads : goal.returns-in-Some-clause-reads
+returns-in-Some-clause-reads g c = λ there.
+    let run = c.run_command.ensures.run in
+    task_reads _ c.args.words.now (task_of c.in-Some.command) run.ending c.in-Some.ensures.asked run.so there
 
 pub returns-in-Some-clause-whole : goal.returns-in-Some-clause-whole
 returns-in-Some-clause-whole g c =
@@ -50,7 +65,7 @@ pub returns-in-Some-clause-files : goal.returns-in-Some-clause-files
 returns-in-Some-clause-files g c = λ none. c.run_command.ensures.files (λ folder units seed is. none (record { folder = folder; units = units; seed = seed; asks = subst (λ task. AsksFor (map string_bytes c.args.words.now) task) is c.in-Some.ensures.asked }))
 
 pub returns-in-None-clause-run : goal.returns-in-None-clause-run
-returns-in-None-clause-run g c = record { ending = BadWords; status_is = refl; spoken = c.print_text.ensures; cause = tt; so = nothing c.in-None.ensures.none refl (record { files = Told-same (λ x. refl); link = refl }) }
+returns-in-None-clause-run g c = record { ending = BadWords; status_is = refl; spoken = c.print_text.ensures.written; cause = c.print_text.ensures.cause; so = nothing c.in-None.ensures.none refl (record { files = Told-same (λ x. refl); link = refl }) }
 
 pub returns-in-None-clause-words : goal.returns-in-None-clause-words
 returns-in-None-clause-words g c = (λ two. c.in-None.ensures.none, λ none. refl)
@@ -60,6 +75,12 @@ returns-in-None-clause-whole g c = λ hinders. absurd (none_whole _ _ c.args.wor
 
 pub returns-in-None-clause-others : goal.returns-in-None-clause-others
 returns-in-None-clause-others g c = Told-same (λ x. λ name spared. refl)
+
+pub returns-in-None-clause-once : goal.returns-in-None-clause-once
+returns-in-None-clause-once g c = record { file_reads = λ three four. refl; file_writes = λ five. refl; link_reads = λ four. refl; link_writes = λ five. refl }
+
+pub returns-in-None-clause-idle : goal.returns-in-None-clause-idle
+returns-in-None-clause-idle g c = λ two. refl
 
 pub returns-in-None-clause-files : goal.returns-in-None-clause-files
 returns-in-None-clause-files g c = λ none. refl

@@ -1,9 +1,9 @@
 use Rattle.std.proofs.Common.{ap, refl, subst}
 use Rattle.modmap.specs.Commands.{Pipe, Check, Replay, ListUnits, Generate, task_of, AsksFor}
 use Rattle.modmap.proofs.PrintLemmas.{ends_map}
-use Rattle.modmap.proofs.Runnings.{piped_well}
+use Rattle.modmap.proofs.Runnings.{piped_once}
 use Rattle.modmap.proofs.Tasks.{ends_same, gen_bounds}
-use Rattle.modmap.proofs.Writings.{gen_zero}
+use Rattle.modmap.proofs.Writings.{gen_kept}
 use Rattle.modmap.proofs.alone.run_command.Goals as goal
 
 pub run_gen-requires : goal.run_gen-requires
@@ -24,24 +24,26 @@ pub returns-in-List-clause-run : goal.returns-in-List-clause-run
 returns-in-List-clause-run g c = ends_same _ (ListUnits c.in-List.project.now) _ _ _ (ap task_of c.in-List.is) (ends_map (λ ended so. record { lists_so = so; link = refl }) c.run_list.ensures.run)
 
 pub returns-in-Gen-clause-run : goal.returns-in-Gen-clause-run
-returns-in-Gen-clause-run g c = ends_same _ (Generate c.in-Gen.folder.now c.in-Gen.units c.in-Gen.seed) _ _ _ (ap task_of c.in-Gen.is) (ends_map (λ ended so. record { generates_so = so; link = refl }) c.run_gen.ensures.run)
+returns-in-Gen-clause-run g c = ends_same _ (Generate c.in-Gen.folder.now c.in-Gen.units c.in-Gen.seed) _ _ _ (ap task_of c.in-Gen.is) (ends_map (λ ended so. record { generates_so = so; reads = c.run_gen.ensures.read_faults; link = refl }) c.run_gen.ensures.run)
 
-pub returns-in-Pipe-clause-unfailing : goal.returns-in-Pipe-clause-unfailing
-returns-in-Pipe-clause-unfailing g c = let run = c.run_pipe.ensures.run in piped_well _ c.in-Pipe.project.now c.in-Pipe.entries run.ending _ run.status_is c.run_pipe.ensures.files run.so
+pub returns-in-Pipe-clause-once : goal.returns-in-Pipe-clause-once
+returns-in-Pipe-clause-once g c =
+    let run = c.run_pipe.ensures.run in
+    piped_once _ c.in-Pipe.project.now c.in-Pipe.entries run.ending _ run.status_is run.so c.run_pipe.ensures.files (λ same. ap (λ link. g.L.Link.read_faults link) same) (λ same. ap (λ link. g.L.Link.write_faults link) same)
 
-pub returns-in-Check-clause-unfailing : goal.returns-in-Check-clause-unfailing
-returns-in-Check-clause-unfailing g c = λ done. record { file_reads = c.run_check.ensures.unfailing done; file_writes = c.run_check.ensures.files; link_reads = refl; link_writes = refl }
+pub returns-in-Check-clause-once : goal.returns-in-Check-clause-once
+returns-in-Check-clause-once g c = record { file_reads = c.run_check.ensures.read_once; file_writes = λ five. c.run_check.ensures.files; link_reads = λ four. refl; link_writes = λ five. refl }
 
-pub returns-in-Replay-clause-unfailing : goal.returns-in-Replay-clause-unfailing
-returns-in-Replay-clause-unfailing g c = λ done. record { file_reads = c.run_replay.ensures.unfailing done; file_writes = c.run_replay.ensures.files; link_reads = refl; link_writes = refl }
+pub returns-in-Replay-clause-once : goal.returns-in-Replay-clause-once
+returns-in-Replay-clause-once g c = record { file_reads = c.run_replay.ensures.read_once; file_writes = λ five. c.run_replay.ensures.files; link_reads = λ four. refl; link_writes = λ five. refl }
 
-pub returns-in-List-clause-unfailing : goal.returns-in-List-clause-unfailing
-returns-in-List-clause-unfailing g c = λ done. record { file_reads = c.run_list.ensures.unfailing done; file_writes = c.run_list.ensures.files; link_reads = refl; link_writes = refl }
+pub returns-in-List-clause-once : goal.returns-in-List-clause-once
+returns-in-List-clause-once g c = record { file_reads = c.run_list.ensures.read_once; file_writes = λ five. c.run_list.ensures.files; link_reads = λ four. refl; link_writes = λ five. refl }
 
-pub returns-in-Gen-clause-unfailing : goal.returns-in-Gen-clause-unfailing
-returns-in-Gen-clause-unfailing g c = λ done.
+pub returns-in-Gen-clause-once : goal.returns-in-Gen-clause-once
+returns-in-Gen-clause-once g c =
     let run = c.run_gen.ensures.run in
-    record { file_reads = c.run_gen.ensures.read_faults; file_writes = c.run_gen.ensures.unfailing (gen_zero _ _ _ c.in-Gen.folder.now c.in-Gen.units c.in-Gen.seed run.ending _ run.status_is run.so done); link_reads = refl; link_writes = refl }
+    record { file_reads = λ three four. c.run_gen.ensures.read_faults; file_writes = gen_kept _ _ _ _ c.in-Gen.folder.now c.in-Gen.units c.in-Gen.seed run.ending _ run.status_is run.so; link_reads = λ four. refl; link_writes = λ five. refl }
 
 pub returns-in-Pipe-clause-files : goal.returns-in-Pipe-clause-files
 returns-in-Pipe-clause-files g c = λ none. c.run_pipe.ensures.files

@@ -1,7 +1,7 @@
 use Rattle.std.proofs.Common.{◌≡◌, refl, rules, subst}
 use Rattle.mm_outside.specs.Told.{Told}
 use Rattle.mm_outside.proofs.ToldLemmas.{Told-same}
-use Rattle.modmap.specs.Endings.{OutOfMemory, Prints, message_of, told_by}
+use Rattle.modmap.specs.Endings.{OutOfMemory, Prints, RisesOnlyOver, message_of, told_by}
 use Rattle.modmap.specs.Running.{no_memory}
 use Rattle.modmap.proofs.PrintLemmas.{ends_as, ends_told}
 use Rattle.modmap.proofs.alone.run_pipe.Goals as goal
@@ -13,5 +13,6 @@ pub returns-clause-run : goal.returns-clause-run
 returns-clause-run g c =
     let same : c.octets.result.now ≡ message_of (told_by c.serve_project-ending.result) = search rules in
     ends_told c.serve_project-ending.result _ c.status.ensures
-    (subst (λ text. Told (Prints text (g.K.Sink.faults c.args.out.now) (g.K.Sink.faults c.print_text.new.out)) (g.K.Sink.written c.args.out.now) (g.K.Sink.written c.print_text.new.out)) same c.print_text.ensures)
+    (subst (λ text. Told (Prints text (g.K.Sink.faults c.args.out.now) (g.K.Sink.faults c.print_text.new.out)) (g.K.Sink.written c.args.out.now) (g.K.Sink.written c.print_text.new.out)) same c.print_text.ensures.written)
+    (subst (λ text. RisesOnlyOver text (g.K.Sink.faults c.args.out.now) (g.K.Sink.faults c.print_text.new.out)) same c.print_text.ensures.cause)
     c.serve_project-ending.ensures.pipes

@@ -5,7 +5,7 @@ use Rattle.modmap.specs.ListRuns.{HoldsProject, ended_by}
 use Rattle.modmap.proofs.Gatherings.{built_have_names}
 use Rattle.modmap.proofs.Reporting.{rose_since}
 use Rattle.modmap.proofs.Listers.{all_taken, file_refused, of_stop, out_run, reported_run, told_run, unit_stops}
-use Rattle.modmap.proofs.Statuses.{file_not_done}
+use Rattle.modmap.proofs.Statuses.{keeps_since, kept_told}
 use Rattle.modmap.proofs.list.run_list.Goals as goal
 
 pub gather-requires : goal.gather-requires
@@ -14,8 +14,8 @@ gather-requires g c = record { named = built_have_names c.in-Ok.project c.in-Ok.
 pub returns-in-Err-clause-run : goal.returns-in-Err-clause-run
 returns-in-Err-clause-run g c = told_run _ _ _ c.args.name.now _ _ (told_by c.in-Err.ending) c.in-Err.ensures.kind c.tell.ensures (file_refused _ c.args.name.now (told_by c.in-Err.ending) _ _ c.in-Err.ensures.content)
 
-pub returns-in-Err-clause-unfailing : goal.returns-in-Err-clause-unfailing
-returns-in-Err-clause-unfailing g c = λ done. absurd (file_not_done (told_by c.in-Err.ending) _ _ c.in-Err.ensures.kind c.tell.ensures done)
+pub returns-in-Err-clause-read_once : goal.returns-in-Err-clause-read_once
+returns-in-Err-clause-read_once g c = kept_told (told_by c.in-Err.ending) _ _ _ _ c.in-Err.ensures.kept c.tell.ensures
 
 pub returns-in-Ok-report_on-clause-run : goal.returns-in-Ok-report_on-clause-run
 returns-in-Ok-report_on-clause-run g c =
@@ -37,5 +37,6 @@ returns-clause-run g c =
     (rose_since (g.F.Files.read_faults c.args.files.now) (g.F.Files.read_faults c.read_project.new.files) (g.F.Files.read_faults c.gather.new.files) c.in-Ok.ensures.read_faults)
     c.args.name.now c.in-Ok.project (ended_by c.in-Err-gather.stop) _ _ _ c.in-Ok.ensures.content c.in-Err-gather.ensures.files)
 
-pub returns-clause-unfailing : goal.returns-clause-unfailing
-returns-clause-unfailing g c = λ done. absurd (file_not_done (ended_by c.in-Err-gather.stop) _ _ (of_stop c.in-Err-gather.stop) c.tell_stop.ensures done)
+pub returns-clause-read_once : goal.returns-clause-read_once
+returns-clause-read_once g c =
+    kept_told (ended_by c.in-Err-gather.stop) _ _ _ _ (keeps_since (ended_by c.in-Err-gather.stop) _ _ _ c.in-Ok.ensures.kept c.in-Err-gather.ensures.kept) c.tell_stop.ensures

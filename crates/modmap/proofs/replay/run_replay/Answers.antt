@@ -1,7 +1,7 @@
 use Rattle.std.proofs.Common.{◌≡◌, rules, subst}
 use Rattle.modmap.specs.Endings.{OutOfMemory, Tells, output_of, told_by}
 use Rattle.modmap.proofs.Reporting.{report_issued, report_out, report_refused}
-use Rattle.modmap.proofs.Statuses.{file_not_done}
+use Rattle.modmap.proofs.Statuses.{kept_told}
 use Rattle.modmap.proofs.replay.run_replay.Goals as goal
 
 pub returns-in-Ok-replay_trace-clause-run : goal.returns-in-Ok-replay_trace-clause-run
@@ -16,5 +16,5 @@ returns-in-Ok-clause-run g c =
 pub returns-clause-run : goal.returns-clause-run
 returns-clause-run g c = report_refused _ _ _ _ _ _ _ _ (told_by c.in-Err.ending) c.in-Err.ensures.kind c.in-Err.ensures.found c.tell.ensures
 
-pub returns-clause-unfailing : goal.returns-clause-unfailing
-returns-clause-unfailing g c = λ done. absurd (file_not_done (told_by c.in-Err.ending) _ _ c.in-Err.ensures.kind c.tell.ensures done)
+pub returns-clause-read_once : goal.returns-clause-read_once
+returns-clause-read_once g c = kept_told (told_by c.in-Err.ending) _ _ _ _ c.in-Err.ensures.kept c.tell.ensures

@@ -1,6 +1,6 @@
 use Rattle.std.proofs.Common.{◌≡◌, inl, inr, refl, rules, subst}
 use Rattle.mm_outside.specs.Told.{Told}
-use Rattle.modmap.specs.Endings.{OutOfMemory, Prints, message_of, told_by}
+use Rattle.modmap.specs.Endings.{OutOfMemory, Prints, RisesOnlyOver, message_of, told_by}
 use Rattle.modmap.proofs.PrintLemmas.{ends_as, ends_told}
 use Rattle.modmap.proofs.telling.tell.Goals as goal
 
@@ -11,5 +11,6 @@ pub returns : goal.returns
 returns g c =
     let same : c.octets.result.now ≡ message_of (told_by c.args.ending) = search rules in
     ends_told c.args.ending _ c.status.ensures
-    (subst (λ text. Told (Prints text (g.K.Sink.faults c.args.out.now) (g.K.Sink.faults c.print_text.new.out)) (g.K.Sink.written c.args.out.now) (g.K.Sink.written c.print_text.new.out)) same c.print_text.ensures)
+    (subst (λ text. Told (Prints text (g.K.Sink.faults c.args.out.now) (g.K.Sink.faults c.print_text.new.out)) (g.K.Sink.written c.args.out.now) (g.K.Sink.written c.print_text.new.out)) same c.print_text.ensures.written)
+    (subst (λ text. RisesOnlyOver text (g.K.Sink.faults c.args.out.now) (g.K.Sink.faults c.print_text.new.out)) same c.print_text.ensures.cause)
     (inl refl)

@@ -1,10 +1,13 @@
 use Rattle.std.proofs.Common.{Err, subst}
 use Rattle.mm_outside.specs.Files.{Finds}
 use Rattle.mm_outside.specs.Told.{Told}
-use Rattle.modmap.proofs.Gatherings.{told_too_long}
+use Rattle.modmap.proofs.Gatherings.{told_too_long, unreadable_keeps}
 use Rattle.modmap.proofs.unit_files.read_file.Goals as goal
 
 pub returns-in-Err-TooLong-clause-file : goal.returns-in-Err-TooLong-clause-file
 returns-in-Err-TooLong-clause-file g c =
     told_too_long _ c.args.name.now c.args.most c.stop_at-in-Err-TooLong.result _ _ c.stop_at-in-Err-TooLong.ensures
     (subst (λ error. Told (Finds (Err error) c.args.name.now c.args.most) (g.F.Files.content c.args.files.now) (g.F.Files.content c.read_all.new.self)) c.in-Err-TooLong.field-0-is c.in-Err-TooLong.ensures.content)
+
+pub returns-in-Err-Failed-clause-kept : goal.returns-in-Err-Failed-clause-kept
+returns-in-Err-Failed-clause-kept g c = unreadable_keeps c.stop_at.result c.args.name.now _ _ c.stop_at.ensures
