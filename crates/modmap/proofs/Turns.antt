@@ -1,5 +1,5 @@
 -- One read, and what is made of it.
-use Rattle.std.proofs.Common.{◌≡◌, ◌≢◌, ℕ, zero, suc, List, [], ◌∷◌, ◌++◌, length, take, refl, sym, ap, subst, ◌∙◌, append_assoc, arith, Option, Some, None, Ok}
+use Rattle.std.proofs.Common.{◌≡◌, ◌≢◌, ℕ, zero, suc, List, [], ◌∷◌, ◌++◌, length, take, get_or, refl, sym, ap, subst, ◌∙◌, append_assoc, arith, Option, Some, None, Ok}
 use Rattle.std.proofs.lemmas.List.{append-nil, length-append, nil_from_length}
 use Rattle.mm_outside.specs.Octets.{Octets, Reads}
 use Rattle.mm_outside.specs.declared.errors.Failed.{Failed}
@@ -7,6 +7,7 @@ use Rattle.cody_batches.specs.Blocks.{blocks, held, taken, PassesLimits}
 use Rattle.cody_batches.proofs.LimitLaws.{taken_whole, within_limits}
 use Rattle.unit_registry.specs.Projects.{ProjectView}
 use Rattle.std.specs.Prelude.{Result, IfOk}
+use Rattle.std.specs.List.{range_with_len}
 use Rattle.mm_outside.specs.Causes.{Rose}
 use Rattle.std.proofs.lemmas.List.FromFn.{length-range_with_len}
 use Rattle.unit_registry.specs.declared.act.Act.{Act as Acts}
@@ -139,6 +140,24 @@ left_is project limit how desk left done last place other a b tells tells_left t
 -- the limit stays where a connection opened
 pub opened_limit : {Held : Type 0} (result : Result ℕ Full) (conn : ℕ) (before after : DeskState Held) → result ≡ Ok conn → IfOk result (λ conn. (place : ℕ) × Adds before (entry conn Open) place after) → after.seen.limit ≡ before.seen.limit
 opened_limit result conn before after is opened = (subst (λ (r : Result ℕ Full). IfOk r (λ conn. (place : ℕ) × Adds before (entry conn Open) place after)) is opened).1.stays.limit
+
+-- the one connection of a desk that counts its connections from 0 is connection 0
+only_zero : (conn n : ℕ) → range_with_len 0 n ≡ conn ∷ [] → conn ≡ 0
+only_zero conn n e =
+    let size : n ≡ 1 = sym (length-range_with_len 0 n) ∙ ap length e in
+    let one : range_with_len 0 1 ≡ conn ∷ [] = subst (λ (m : ℕ). range_with_len 0 m ≡ conn ∷ []) size e in
+    sym (ap (λ (xs : List ℕ). get_or xs 0 0) one)
+
+-- behind the opening of its first connection a desk stands after no octets
+pub opened_stands : {Item Held : Type 0} (project : ProjectView) (session : SessionState Item) (before after : DeskState Held) (result : Result ℕ Full) (conn n : ℕ) → StandsAfter session project [] → before.seen.entries ≡ [] → before.connections ≡ [] → TellsAll before → TellsAll after
+    → after.connections ≡ range_with_len 0 n → result ≡ Ok conn → IfOk result (λ conn. (place : ℕ) × Adds before (entry conn Open) place after) → Stands project session after []
+opened_stands project session before after result conn n stands empty none tells tells_after numbered is opened =
+    let adds = subst (λ (r : Result ℕ Full). IfOk r (λ conn. (place : ℕ) × Adds before (entry conn Open) place after)) is opened in
+    let first : conn ≡ 0 = only_zero conn n (sym numbered ∙ adds.1.connections ∙ ap (λ (xs : List ℕ). xs ++ conn ∷ []) none) in
+    record {
+      stands = stands;
+      entries = adds_one before after (entry conn Open) adds.0 tells tells_after adds.1 ∙ ap (λ (xs : List Entry). xs ++ entry conn Open ∷ []) empty ∙ ap (λ (c : ℕ). entry c Open ∷ []) first;
+    }
 
 -- a session that has taken nothing is ready
 pub ready_anew : {Item : Type 0} (s : SessionState Item) (project : ProjectView) → StandsAfter s project [] → ended s ≡ None → IsIdle s → s.stash ≡ None → s.conn ≡ 0 → IsReady s
