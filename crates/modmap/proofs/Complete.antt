@@ -66,7 +66,7 @@ courses_same : (asked other : List Acts) → whole_course asked act.Lost ≡ who
 courses_same asked other e = omega (arith, ap length e, length-append asked (act.Lost ∷ []), length-append other (act.Lost ∷ []))
 
 -- where all fits, the history isn't full
-never_full : (project : ProjectView) (limit : ℕ) (read written : List ℕ) → length (acts project (taken read)) + 3 ≤ limit → Filled project 1 limit (solo project limit read written 9) 0 (taken read) written → ⊥
+pub never_full : (project : ProjectView) (limit : ℕ) (read written : List ℕ) → length (acts project (taken read)) + 3 ≤ limit → Filled project 1 limit (solo project limit read written 9) 0 (taken read) written → ⊥
 never_full project limit read written fits filled =
     let asked : List Acts = acts project (taken read) in
     let all : take (limit - 3) asked ≡ asked = take_all (limit - 3) asked (omega (arith, fits)) in

@@ -26,3 +26,4 @@ pub mod Playing
 pub mod Entering
 pub mod Played
 pub mod Replayed
+pub mod MeaningLemmas

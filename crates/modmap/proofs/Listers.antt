@@ -1,5 +1,5 @@
 -- What a run of `list` comes to.
-use Rattle.std.proofs.Common.{◌≡◌, ◌⊎◌, inl, inr, ℕ, ◌≤◌, List, Option, Ok, Err, subst, ◌∙◌, arith}
+use Rattle.std.proofs.Common.{inl, inr, ℕ, List, Option, Ok, Err, subst, ◌∙◌}
 use Rattle.mm_outside.specs.Files.{Lookup}
 use Rattle.mm_outside.specs.Told.{Told}
 use Rattle.mm_outside.proofs.ToldLemmas.{Told-map, Told-then}

@@ -1,10 +1,9 @@
 -- What is printed at an ending.
-use Rattle.std.proofs.Common.{◌≡◌, ◌⊎◌, ℕ, ◌<◌, List, [], ◌++◌, length, refl, sym, ap, subst, ◌∙◌, Result, Ok, Err, Option, inl, inr}
-use Rattle.std.proofs.lemmas.List.{append-nil}
+use Rattle.std.proofs.Common.{◌≡◌, ◌⊎◌, ℕ, List, sym, subst, Result, Ok, Err, Option, inl, inr}
 use Rattle.mm_outside.specs.Causes.{HasCause}
 use Rattle.mm_outside.specs.Sending.{AppendsAll}
 use Rattle.mm_outside.specs.Told.{Told}
-use Rattle.mm_outside.proofs.ToldLemmas.{Told-map, Told-same}
+use Rattle.mm_outside.proofs.ToldLemmas.{Told-map}
 use Rattle.modmap.specs.declared.ending.Ending.{Ending}
 use Rattle.modmap.specs.declared.ending.Ending.TheVariants as endings
 use Rattle.modmap.specs.Endings.{Ended, OutOfMemory, Prints, RisesOnlyOver, Speaks, HasSinkCause, Output, Ends, Tells, message_of, status_of, told_by}
@@ -17,15 +16,6 @@ module _ (T E : Type 0) where
   -- what was printed is the text, or a part of it where the count rose
   pub told_prints : (result : Result T E) (text : List ℕ) (before now : ℕ) (a b : Option (List ℕ)) → HasCause before now result → Told (AppendsAll result text) a b → Told (Prints text before now) a b
   told_prints result text before now a b cause = Told-map {R = AppendsAll result text} (λ x y p. prints result text before now x y cause p)
-
-  -- and the count rose only where there was something to print
-  pub rises_only : (result : Result T E) (text : List ℕ) (before now : ℕ) → HasCause before now result → 0 < length text → RisesOnlyOver text before now
-  rises_only (Ok u) text before now cause some = inl cause.kept
-  rises_only (Err e) text before now cause some = inr (some, cause.failed)
-
--- printing nothing does nothing
-pub prints_nothing : (text : List ℕ) (faults : ℕ) (told : Option (List ℕ)) → text ≡ [] → Told (Prints text faults faults) told told
-prints_nothing text faults told empty = Told-same (λ x. Prints.whole (sym (ap (λ t. x ++ t) empty ∙ append-nil x)) refl)
 
 -- ---- endings
 

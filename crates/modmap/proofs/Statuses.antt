@@ -59,7 +59,7 @@ report_whole report ended b n ends cause stood = by (in_report report ended ends
 -- ---- a file
 
 -- an ending that a file brings has status 3, 4 or 6
-of_file : (ended : Ended) → IsOfFile ended → (status_of ended ≡ 3) ⊎ ((status_of ended ≡ 4) ⊎ (status_of ended ≡ 6))
+pub of_file : (ended : Ended) → IsOfFile ended → (status_of ended ≡ 3) ⊎ ((status_of ended ≡ 4) ⊎ (status_of ended ≡ 6))
 of_file BadWords kind = absurd kind
 of_file OutOfMemory kind = inl refl
 of_file (CannotRead named) kind = inr (inl refl)

@@ -13,12 +13,12 @@ use Rattle.trace_text.specs.Faults.{IsTraceText}
 use Rattle.trace_text.proofs.Outcomes.{never_both}
 use Rattle.modmap.specs.declared.verb.Verb.{Verb}
 use Rattle.modmap.specs.declared.verb.Verb.TheVariants as verb
-use Rattle.modmap.specs.Commands.{Task, Pipe, Check, Replay, ListUnits, Generate, AsksAs, AsksFor, usual, counted}
+use Rattle.modmap.specs.Commands.{Task, Pipe, Check, Replay, ListUnits, Generate, AsksAs, AsksFor, AsksNothing, usual, counted}
 use Rattle.modmap.specs.Endings.{Report, Ended, BadWords, OutOfMemory, CannotRead, FileTooLong, Refused, Served, Reported, Cut, WriteFailed, HasSinkCause, Output, Ends, status_of}
 use Rattle.modmap.specs.ProjectFiles.{DeclaresProject, FindsProject, IsOfFile}
 use Rattle.modmap.specs.Reports.{Refuses, ReportsSo, check_report}
 use Rattle.modmap.specs.Replays.{replay_report}
-use Rattle.modmap.specs.Running.{Outside, AreBothThere, AreUnitsThere, AsksNothing, AsksReport, AsksToWrite, DoesTask, IsAllThere, IsReadBy, IsReport, IsSparedBy, KeepsOthers, LacksFile, NothingHinders, to_serve, to_report, to_list, to_write}
+use Rattle.modmap.specs.Running.{Outside, AreBothThere, AreUnitsThere, AsksReport, AsksToWrite, DoesTask, IsAllThere, IsReadBy, IsReport, IsSparedBy, KeepsOthers, LacksFile, NothingHinders, to_serve, to_report, to_list, to_write}
 use Rattle.modmap.specs.TraceFiles.{FindsTrace, HoldsTrace, IsTraceReadAs}
 use Rattle.modmap.proofs.Complete.{all_served, fault_of_read, same_some, told_refused}
 use Rattle.modmap.proofs.Forms.{one_task}

@@ -1,7 +1,7 @@
 -- What holds of a report on the units of a project, by its ending.
 use Rattle.std.proofs.Common.{◌≡◌, ◌≢◌, ◌⊎◌, inl, inr, ℕ, ◌≤◌, ◌<◌, Bool, true, false, List, length, map, Option, Some, None, Err, refl, sym, ap, subst, ◌∙◌, arith}
 use Rattle.std.proofs.lemmas.Option.{none-some}
-use Rattle.std.specs.Prelude.{IsSomeAnd, String, string_bytes, if◌then◌else◌}
+use Rattle.std.specs.Prelude.{IsSomeAnd, String, string_bytes}
 use Rattle.std.specs.declared.alloc.Global.{Global}
 use Rattle.mm_outside.specs.Causes.{Rose}
 use Rattle.mm_outside.specs.Files.{Lookup}

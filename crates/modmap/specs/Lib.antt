@@ -13,3 +13,4 @@ pub mod Plays
 pub mod Generating
 pub mod Askings
 pub mod ListRuns
+pub mod Meanings

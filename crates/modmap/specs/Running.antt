@@ -11,8 +11,7 @@ use Rattle.connection_core.specs.Asking.{acts}
 use Rattle.connection_core.specs.declared.conn_end.ConnEnd.{ConnEnd}
 use Rattle.connection_core.specs.Ends.{HasCauses}
 use Rattle.trace_text.specs.declared.trace.Trace.{Trace}
-pub use Rattle.modmap.specs.Commands.{AsksNothing}
-use Rattle.modmap.specs.Commands.{Task, Pipe, Check, Replay, ListUnits, Generate, AsksFor}
+use Rattle.modmap.specs.Commands.{Task, Pipe, Check, Replay, ListUnits, Generate, AsksFor, AsksNothing}
 use Rattle.modmap.specs.Endings.{Ended, BadWords, OutOfMemory, Served, Report, Output}
 use Rattle.modmap.specs.Generating.{GeneratesSo, generated_files}
 use Rattle.modmap.specs.ListRuns.{HoldsAll, IsUnitFile, ListsSo}

@@ -2,12 +2,29 @@
 //! a stream really gives and takes is outside every clause.
 
 ghost use Rattle.std.specs.Prelude.{None};
+ghost use Rattle.mm_outside.specs.Causes.{HasCause};
+ghost use Rattle.mm_outside.specs.Octets.{WritesSome};
 
 #[cfg(test)]
 mod tests;
 
 use mm_outside::{Failed, Link, Sink};
 use std::io::{Read, Write};
+
+/// Writes octets from the front of `piece`, at least one, and answers how many. Each error, and a writer that takes no
+/// octets, raises the count of faults.
+fn write_some<W: Write>(writer: &mut W, piece: &[u8], faults: &mut u64) -> Result<usize, Failed>
+    ensures bound { WritesSome result piece.now }
+    ensures cause { HasCause faults.old faults.new result }
+{
+    match writer.write(piece) {
+        Ok(count) if count > 0 => Ok(count),
+        _ => {
+            *faults = faults.saturating_add(1);
+            Err(Failed)
+        }
+    }
+}
 
 /// A link over a reader and a writer. Each error of the reader, and each of the writer, raises its count of faults;
 /// a writer that takes no octets has failed.
@@ -53,13 +70,7 @@ impl<R: Read, W: Write> Link for Pipe<R, W> {
     }
 
     fn write(&mut self, piece: &[u8]) -> Result<usize, Failed> {
-        match self.writer.write(piece) {
-            Ok(count) if count > 0 => Ok(count),
-            _ => {
-                self.write_faults = self.write_faults.saturating_add(1);
-                Err(Failed)
-            }
-        }
+        write_some(&mut self.writer, piece, &mut self.write_faults)
     }
 }
 
@@ -87,12 +98,6 @@ impl<W: Write> Sink for WriterSink<W> {
     ghost faults = { λ sink. sink.faults };
 
     fn write(&mut self, piece: &[u8]) -> Result<usize, Failed> {
-        match self.writer.write(piece) {
-            Ok(count) if count > 0 => Ok(count),
-            _ => {
-                self.faults = self.faults.saturating_add(1);
-                Err(Failed)
-            }
-        }
+        write_some(&mut self.writer, piece, &mut self.faults)
     }
 }

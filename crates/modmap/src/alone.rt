@@ -1,12 +1,13 @@
 //! The call behind the program: words in, a status out.
 
-ghost use Rattle.std.specs.Prelude.{◌≡◌, ◌↔◌, ◌⊎◌, ◌≤◌, ◌+◌, ℕ, List};
+ghost use Rattle.std.specs.Prelude.{◌≡◌, ◌↔◌, ◌⊎◌, ◌≤◌, ◌+◌, ℕ, List, true, false};
 ghost use Rattle.mm_outside.specs.Causes.{Rose};
 ghost use Rattle.mm_outside.specs.Told.{Told};
 ghost use Rattle.cody_words.specs.Canonical.{word_room};
 ghost use Rattle.modmap.specs.Endings.{Ends, frame_room, message_room, output_of, reason_room, told_by};
-ghost use Rattle.modmap.specs.Commands.{Generate, task_of, AsksFor};
-ghost use Rattle.modmap.specs.Running.{AsksNothing, AsksToReport, AsksToWrite, Does, DoesTask, HasNoFault, KeepsOthers, LacksFile, NothingHinders, Pipes, TriesOnce, outside_of};
+ghost use Rattle.modmap.specs.Commands.{AsksFor, AsksNothing, Generate, task_of};
+ghost use Rattle.modmap.specs.Meanings.{FillsHistory, Judges, NamesRefused, ReadsBeyond, StopsInside};
+ghost use Rattle.modmap.specs.Running.{AsksToReport, AsksToWrite, Does, DoesTask, HasNoFault, KeepsOthers, LacksFile, NothingHinders, Pipes, TriesOnce, outside_of};
 
 use crate::check::run_check;
 use crate::command::Command;
@@ -127,11 +128,21 @@ pub fn run_alone<R, F: Files, L: Link, K: Sink>(
     ensures others { Told (KeepsOthers words.now) (F.content files.old) (F.content files.new) }
     ensures files { ¬ (AsksToWrite words.now) → F.write_faults files.new ≡ F.write_faults files.old }
 
-    // Where nothing hinders what the words ask for, it is done whole, unless memory runs out before. Only a report ends
-    // with 1.
+    // Where nothing hinders what the words ask for, it is done whole, unless memory runs out before.
     ensures whole { NothingHinders (outside_of F.content F.read_faults F.write_faults L.octets L.read_faults L.write_faults files.old files.new link.old link.new)
         (output_of K.written K.faults out.old out.new) words.now → (result ≡ 0) ⊎ ((result ≡ 1) ⊎ (result ≡ 3)) }
-    ensures ill { result ≡ 1 → AsksToReport words.now }
+
+    // Of what is reported on, 0 says that all is well and 1 that it isn't. 6 names a file that is refused. 7, 8 and 9
+    // come only by the octets that were read.
+    ensures well { result ≡ 0 → AsksToReport words.now → Judges (outside_of F.content F.read_faults F.write_faults L.octets L.read_faults L.write_faults files.old files.new link.old link.new)
+        (output_of K.written K.faults out.old out.new) words.now true }
+    ensures ill { result ≡ 1 → Judges (outside_of F.content F.read_faults F.write_faults L.octets L.read_faults L.write_faults files.old files.new link.old link.new)
+        (output_of K.written K.faults out.old out.new) words.now false }
+    ensures refused { result ≡ 6 → NamesRefused (outside_of F.content F.read_faults F.write_faults L.octets L.read_faults L.write_faults files.old files.new link.old link.new)
+        (output_of K.written K.faults out.old out.new) words.now }
+    ensures cut { result ≡ 7 → Told StopsInside (L.octets link.old) (L.octets link.new) }
+    ensures beyond { result ≡ 8 → Told ReadsBeyond (L.octets link.old) (L.octets link.new) }
+    ensures full { result ≡ 9 → FillsHistory (outside_of F.content F.read_faults F.write_faults L.octets L.read_faults L.write_faults files.old files.new link.old link.new) words.now }
 {
     match Command::read(words) {
         Some(command) => run_command(alloc, command, files, link, out),

@@ -25,6 +25,12 @@ fn print_some<K: Sink>(text: &[u8], out: &mut K)
     let _ = print(out, text);
 }
 
+/// The longest name of which a message is made.
+const LONGEST_NAME: usize = 1_000_000_000;
+
+/// The longest reason of which a message is made.
+const LONGEST_REASON: usize = 1_000;
+
 /// Prints a text, whole unless a write fails, which changes no status. Behind a failed write nothing more is written.
 pub fn print_text<K: Sink>(text: &[u8], out: &mut K)
     ensures written { Told (Prints text.now (K.faults out.old) (K.faults out.new)) (K.written out.old) (K.written out.new) }
@@ -40,7 +46,7 @@ pub fn print_text<K: Sink>(text: &[u8], out: &mut K)
 fn framed_buffer(alloc: Global, name: &[u8], reason: usize) -> Result<LineBuf, Memory>
     ensures { IfOk result (λ buffer. (buffer.octets ≡ []) × (word_room name.now + reason + frame_room ≤ buffer.spare)) }
 {
-    if name.len() > 1_000_000_000 || reason > 1_000 {
+    if name.len() > LONGEST_NAME || reason > LONGEST_REASON {
         return Err(Memory);
     }
     let word_room = 3 * name.len() as u32 + 2;

@@ -1,9 +1,11 @@
-use Rattle.std.proofs.Common.{refl, sym, subst, ◌∙◌}
+use Rattle.std.proofs.Common.{true, false, refl, sym, subst, ◌∙◌}
 use Rattle.std.specs.Prelude.{map, string_bytes}
 use Rattle.mm_outside.proofs.ToldLemmas.{Told-same}
 use Rattle.modmap.specs.Commands.{task_of, AsksFor}
 use Rattle.modmap.specs.Endings.{BadWords}
-use Rattle.modmap.specs.Running.{nothing, asked}
+use Rattle.modmap.specs.Running.{IsReport, nothing, asked}
+use Rattle.modmap.proofs.Forms.{one_task}
+use Rattle.modmap.proofs.MeaningLemmas.{names_refused, task_eight, task_judges, task_nine, task_seven}
 use Rattle.modmap.proofs.PrintLemmas.{ends_map}
 use Rattle.modmap.proofs.Tasks.{none_whole, task_one, task_two, task_untouched, task_four, task_five, task_keeps, task_reads, task_whole}
 use Rattle.modmap.proofs.Runnings.{done_well}
@@ -51,10 +53,37 @@ returns-in-Some-clause-whole g c =
     let run = c.run_command.ensures.run in
     task_whole _ c.args.words.now _ (task_of c.in-Some.command) run.ending _ c.in-Some.ensures.asked run.status_is run.so run.cause
 
+pub returns-in-Some-clause-well : goal.returns-in-Some-clause-well
+returns-in-Some-clause-well g c = λ zero_is there.
+    let run = c.run_command.ensures.run in
+    task_judges _ c.args.words.now _ true run.ending (sym run.status_is ∙ zero_is) run.spoken (task_of c.in-Some.command) c.in-Some.ensures.asked
+    (subst IsReport (one_task (map string_bytes c.args.words.now) there.task (task_of c.in-Some.command) there.asks c.in-Some.ensures.asked) there.is_report) run.so
+
 pub returns-in-Some-clause-ill : goal.returns-in-Some-clause-ill
 returns-in-Some-clause-ill g c = λ one.
     let run = c.run_command.ensures.run in
-    record { task = task_of c.in-Some.command; asks = c.in-Some.ensures.asked; is_report = task_one _ (task_of c.in-Some.command) run.ending run.so (sym run.status_is ∙ one) }
+    task_judges _ c.args.words.now _ false run.ending (sym run.status_is ∙ one) run.spoken (task_of c.in-Some.command) c.in-Some.ensures.asked
+    (task_one _ (task_of c.in-Some.command) run.ending run.so (sym run.status_is ∙ one)) run.so
+
+pub returns-in-Some-clause-refused : goal.returns-in-Some-clause-refused
+returns-in-Some-clause-refused g c = λ six.
+    let run = c.run_command.ensures.run in
+    names_refused _ c.args.words.now _ (task_of c.in-Some.command) run.ending c.in-Some.ensures.asked run.so run.spoken (sym run.status_is ∙ six)
+
+pub returns-in-Some-clause-cut : goal.returns-in-Some-clause-cut
+returns-in-Some-clause-cut g c = λ seven.
+    let run = c.run_command.ensures.run in
+    task_seven _ (task_of c.in-Some.command) run.ending run.so (sym run.status_is ∙ seven)
+
+pub returns-in-Some-clause-beyond : goal.returns-in-Some-clause-beyond
+returns-in-Some-clause-beyond g c = λ eight.
+    let run = c.run_command.ensures.run in
+    task_eight _ (task_of c.in-Some.command) run.ending run.so (sym run.status_is ∙ eight)
+
+pub returns-in-Some-clause-full : goal.returns-in-Some-clause-full
+returns-in-Some-clause-full g c = λ nine.
+    let run = c.run_command.ensures.run in
+    task_nine _ c.args.words.now (task_of c.in-Some.command) run.ending c.in-Some.ensures.asked run.so (sym run.status_is ∙ nine)
 
 pub returns-in-Some-clause-others : goal.returns-in-Some-clause-others
 returns-in-Some-clause-others g c =
