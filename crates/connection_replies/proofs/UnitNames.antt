@@ -1,10 +1,10 @@
 -- A unit whose name is no name has none.
-use Rattle.std.proofs.Common.{◌≡◌, ℕ, ◌<◌, ◌≤◌, Bool, true, false, ◌⊎◌, inl, inr, List, [], ◌∷◌, ◌++◌, ◌==◌, length, Option, Some, None, refl, sym, ap, subst, ◌∙◌, arith}
-use Rattle.std.specs.Prelude.{slice_get, codes}
+use Rattle.std.proofs.Common.{◌≡◌, ℕ, ◌<◌, ◌≤◌, true, ◌⊎◌, inl, inr, List, [], ◌∷◌, ◌++◌, length, Option, None, refl, sym, ap, ◌∙◌, arith}
+use Rattle.std.specs.Prelude.{codes}
 use Rattle.std.specs.Option.{option_map_or}
 use Rattle.std.proofs.lemmas.Bool.{cases_lt, eqb-true}
 use Rattle.std.proofs.lemmas.Option.{slice_get_past}
-use Rattle.header_units.specs.Names.{name_kind, is_relative, is_absolute}
+use Rattle.header_units.specs.Names.{name_kind}
 use Rattle.header_units.specs.CmiNames.{cmi_name, cmi_stem}
 use Rattle.unit_registry.specs.declared.kind.Kind.{Kind}
 use Rattle.unit_registry.specs.declared.kind.Kind.TheVariants.{Module, Header, Plain}

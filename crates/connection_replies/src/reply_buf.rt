@@ -32,20 +32,19 @@ pub struct ReplyBuf {
 impl Model for ReplyBuf {
     ghost use Rattle.std.specs.Prelude.{◌≤◌, ◌+◌, length};
     ghost use Rattle.cody_words.specs.Buffers.{Buffer};
-    ghost use Rattle.connection_replies.specs.ReplyLines.{line_room};
-    ghost use Rattle.connection_replies.specs.Rooms.{text_room};
+    ghost use Rattle.connection_replies.specs.Rooms.{HoldsLines, text_room};
 
     ghost Value = { Buffer };
 
     ghost view = { λ b. b.lines };
 
-    ghost invariant = { λ b. (line_room ≤ length b.lines.octets + b.lines.spare)
+    ghost invariant = { λ b. HoldsLines 1 b.lines
         × (text_room ≤ length b.text.octets + b.text.spare) };
 }
 
 impl ReplyBuf {
-    /// An empty buffer with room for so many lines, of 6,364 octets each: for the 1,024 lines of the longest block
-    /// 6,516,736 octets. It takes all its memory here.
+    /// An empty buffer with room for so many lines, 1 to 1,024, of 6,364 octets each: 6,516,736 octets for the longest
+    /// block. It takes all its memory here.
     ///
     /// # Errors
     ///

@@ -9,8 +9,21 @@ use std::alloc::Global;
 use std::test::*;
 use unit_registry::Project;
 
+/// A project with a module, a header and a plain unit.
 const PROJECT: &[u8] =
     b"modmap-project 1\nrepo gcm.cache\nmodule a a.cc\nheader ./x/../y.h y.h\nplain main.cc\nend\n";
+
+/// A project with a repository of 80 octets.
+const LONG: &[u8] =
+    b"modmap-project 1\nrepo abcdefghijabcdefghijabcdefghijabcdefghijabcdefghijabcdefghijabcdefghijabcdefghij\nend\n";
+
+/// The line of that repository with the mark, 92 octets.
+const MARKED: &[u8] =
+    b"PATHNAME abcdefghijabcdefghijabcdefghijabcdefghijabcdefghijabcdefghijabcdefghijabcdefghij ;\n";
+
+/// The same line without the mark.
+const LAST: &[u8] =
+    b"PATHNAME abcdefghijabcdefghijabcdefghijabcdefghijabcdefghijabcdefghijabcdefghijabcdefghij\n";
 
 /// How lines are answered, and the lines in which they are.
 const LINES: [(LineReply, bool, &[u8]); 8] = [
@@ -87,17 +100,6 @@ fn lines(rt: HostRuntime) -> Result<(), Fail> {
     Ok(())
 }
 
-/// A project with a repository of 80 octets.
-const LONG: &[u8] =
-    b"modmap-project 1\nrepo abcdefghijabcdefghijabcdefghijabcdefghijabcdefghijabcdefghijabcdefghijabcdefghij\nend\n";
-
-/// The line of its repository with the mark, 92 octets, and without.
-const MARKED: &[u8] =
-    b"PATHNAME abcdefghijabcdefghijabcdefghijabcdefghijabcdefghijabcdefghijabcdefghijabcdefghij ;\n";
-
-const LAST: &[u8] =
-    b"PATHNAME abcdefghijabcdefghijabcdefghijabcdefghijabcdefghijabcdefghijabcdefghijabcdefghij\n";
-
 /// Whether the replies go out so over the link.
 fn sends(
     alloc: Global,
@@ -115,10 +117,10 @@ fn sends(
     buffer.send(project, replies, &mut link).is_ok() && link.written() == written
 }
 
-/// Whether so many replies and one more, the repository each, go out in one write: the link takes the first write whole,
-/// and refuses a second one.
-fn is_one_write(alloc: Global, project: &Project, count: usize, room: u32) -> bool {
-    let Ok(link) = MemLink::new(alloc, b"", room, &[], &[], &[], &[1]) else {
+/// Whether so many replies and one more, the repository each, go out in one write: the link takes the first write
+/// whole, and refuses a second one.
+fn is_one_write(alloc: Global, project: &Project, count: usize) -> bool {
+    let Ok(link) = MemLink::new(alloc, b"", 100_000, &[], &[], &[], &[1]) else {
         return false;
     };
     let Ok(mut written) = MARKED.repeat(alloc, count) else {
@@ -150,8 +152,8 @@ fn sent_lines(rt: HostRuntime) -> Result<(), Fail> {
 #[test]
 fn answers_in_one_write(rt: HostRuntime) -> Result<(), Fail> {
     let project = project_of(rt.alloc(), LONG).ok_or("memory")?;
-    assert!(rt; is_one_write(rt.alloc(), &project, 0, 100_000));
-    assert!(rt; is_one_write(rt.alloc(), &project, 1, 100_000));
-    assert!(rt; is_one_write(rt.alloc(), &project, 1023, 100_000));
+    assert!(rt; is_one_write(rt.alloc(), &project, 0));
+    assert!(rt; is_one_write(rt.alloc(), &project, 1));
+    assert!(rt; is_one_write(rt.alloc(), &project, 1023));
     Ok(())
 }
