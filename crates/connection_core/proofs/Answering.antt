@@ -1,7 +1,7 @@
 -- What more blocks and more of a history do to the answers of a connection.
-use Rattle.std.proofs.Common.{◌≡◌, ℕ, ◌+◌, ◌≤◌, Bool, true, false, cond, List, [], ◌∷◌, ◌++◌, length, drop, Option, Some, None, refl, sym, ap, subst, ◌∙◌, append_assoc, arith}
+use Rattle.std.proofs.Common.{◌≡◌, ℕ, ◌≤◌, Bool, true, false, cond, List, [], ◌∷◌, ◌++◌, length, drop, Option, Some, None, refl, sym, ap, ◌∙◌, append_assoc, arith}
 use Rattle.std.specs.Option.{option_map}
-use Rattle.std.proofs.lemmas.List.{append-nil, length-append, length-drop, drop-append-le}
+use Rattle.std.proofs.lemmas.List.{append-nil, length-drop, drop-append-le}
 use Rattle.unit_registry.specs.Projects.{ProjectView}
 use Rattle.histories.specs.declared.answer.Answer.{Answer}
 use Rattle.connection_replies.specs.declared.line_reply.LineReply.{LineReply}

@@ -1,6 +1,6 @@
 -- The acts of lines may be asked of a desk, and what a session comes to that has read a piece.
-use Rattle.std.proofs.Common.{◌≡◌, ◌⊎◌, inl, inr, ℕ, ◌+◌, ◌<◌, ◌≤◌, ◌||◌, ◌&&◌, ◌==◌, Bool, true, false, cond, List, [], ◌∷◌, ◌++◌, length, Option, Some, None, IsFalse, refl, sym, ap, subst, ◌∙◌, append_assoc, arith}
-use Rattle.std.specs.Prelude.{slice_get, nat_le}
+use Rattle.std.proofs.Common.{◌≡◌, ℕ, ◌<◌, ◌||◌, Bool, true, false, List, [], ◌∷◌, length, Option, Some, None, refl, sym, ap, subst, ◌∙◌, arith}
+use Rattle.std.specs.Prelude.{nat_le}
 use Rattle.std.specs.List.{AllByRecursion}
 use Rattle.std.specs.Option.{option_map_or}
 use Rattle.std.proofs.lemmas.Bool.{eqb-true, lt-leb}
@@ -9,7 +9,6 @@ use Rattle.cody_words.specs.Lines.{Meaning, Blank, Words, Malformed as Malformed
 use Rattle.cody_words.specs.Meanings.{meaning}
 use Rattle.mapper_requests.specs.Asked as asked
 use Rattle.mapper_requests.specs.Requests.{request}
-use Rattle.unit_registry.specs.declared.act.Act.{Act as Acts}
 use Rattle.unit_registry.specs.declared.act.Act.TheVariants as act
 use Rattle.unit_registry.specs.declared.kind.Kind.{Kind}
 use Rattle.unit_registry.specs.declared.kind.Kind.TheVariants.{Module, Header, Plain}
@@ -18,7 +17,7 @@ use Rattle.unit_registry.specs.Acts.{act as act_by}
 use Rattle.unit_registry.specs.Kinds.{fits, is_plain_kind}
 use Rattle.unit_registry.specs.Projects.{ProjectView, NamesFit, find_unit, find_ident, is_plain, kind_of, name_of, own_name, own_ident, unit_count}
 use Rattle.unit_registry.proofs.Found.{find_by-within, find_by-some, find_by_at, has_word-same}
-use Rattle.histories.specs.Histories.{is_out_of_range, is_unit_out_of_range}
+use Rattle.histories.specs.Histories.{is_unit_out_of_range}
 use Rattle.connection_core.specs.declared.asked.Asked.{Asked}
 use Rattle.connection_core.specs.Asking.{Block, asked_in, asked_by, asked_of}
 use Rattle.connection_core.specs.Entering.{CanAsk, LineCanAsk}

@@ -1,27 +1,23 @@
 -- Acts that are entered at a desk, one after another.
-use Rattle.std.proofs.Common.{◌≡◌, ◌≢◌, ◌⊎◌, inl, inr, ℕ, zero, suc, ◌+◌, ◌-◌, ◌<◌, ◌≤◌, ◌==◌, ◌&&◌, ◌||◌, Bool, true, false, cond, List, [], ◌∷◌, ◌++◌, length, drop, Contains, Option, Some, None, Ok, Err, Result, IfOk, IfErr, IsTrue, IsFalse, refl, sym, ap, subst, ◌∙◌, append_assoc, arith}
-use Rattle.std.specs.Prelude.{filter_map, if◌then◌else◌}
-use Rattle.std.proofs.lemmas.Bool.{ne_eqb, eqb-true, eq-eqb}
+use Rattle.std.proofs.Common.{◌≡◌, ◌≢◌, inl, inr, ℕ, suc, ◌+◌, ◌≤◌, ◌==◌, ◌&&◌, ◌||◌, Bool, true, false, cond, List, [], ◌∷◌, ◌++◌, length, drop, Contains, Option, Some, None, Ok, Err, Result, IfOk, IfErr, IsTrue, refl, sym, ap, subst, ◌∙◌, append_assoc, arith}
+use Rattle.std.proofs.lemmas.Bool.{ne_eqb, eq-eqb}
 use Rattle.std.proofs.lemmas.List.{append-nil, length-append, drop_all}
 use Rattle.std.specs.List.{AllByRecursion, list_any}
 use Rattle.unit_registry.specs.declared.act.Act.{Act as Acts}
 use Rattle.unit_registry.specs.declared.act.Act.TheVariants as act
-use Rattle.unit_registry.specs.Projects.{ProjectView}
 use Rattle.histories.specs.declared.entry.Entry.{Entry}
-use Rattle.histories.specs.Counts.{Effect, Opens, Asks, Goes, Ends, effect_of, ChangesOpen, ChangesDone}
-use Rattle.histories.specs.Histories.{is_out_of_range}
+use Rattle.histories.specs.Counts.{Effect, Asks, effect_of, ChangesOpen, ChangesDone}
 use Rattle.histories.proofs.Members.{In}
 use Rattle.registry_core.specs.declared.full.Full.{Full}
-use Rattle.registry_core.specs.Ledgers.{entry, IsFull, is_open_in}
-use Rattle.histories.specs.Answered.{stored_unit}
-use Rattle.registry_core.specs.Desks.{DeskState, Stays, Looks, Adds, IsSound, connections_with, uses}
+use Rattle.registry_core.specs.Ledgers.{entry, IsFull}
+use Rattle.registry_core.specs.Desks.{DeskState, Looks, Adds, IsSound, connections_with, uses}
 use Rattle.registry_core.proofs.Desks.{looks_open, looks_apart, adds_apart, adds_own, adds_is_open, stays_further, stays_same}
 use Rattle.connection_core.specs.declared.asked.Asked.{Asked}
 use Rattle.connection_core.specs.declared.asked.Asked.TheVariants.{Act, Malformed}
 use Rattle.connection_core.specs.declared.entering.Stash.{Stash}
-use Rattle.connection_core.specs.Asking.{reports, with_item, stored_for, requests_of, act_in, entered_by, is_refused}
+use Rattle.connection_core.specs.Asking.{reports, with_item, stored_for, requests_of, entered_by, is_refused}
 use Rattle.connection_core.specs.Answers.{acts_of, request_places, is_request}
-use Rattle.connection_core.specs.Entering.{Enters, EntersPart, EntersSo, EntersLine, IsServing, as_entered, is_awaited, unit_kept, stash_left, stash_behind, CanAsk, LineCanAsk}
+use Rattle.connection_core.specs.Entering.{Enters, EntersPart, EntersSo, EntersLine, IsServing, as_entered, unit_kept, stash_left, stash_behind, LineCanAsk}
 use Rattle.connection_core.specs.Working.{EntersSoFar}
 
 -- ---- the acts and the requests of a connection in more of a history
@@ -156,32 +152,6 @@ serving_looks conn before after serving sound looks = record {
 
 -- ---- the kept item
 
-pub plain_entered : {Item : Type 0} (stash : Option (Stash Item)) (asked : Acts) → is_awaited (unit_kept stash) asked ≡ false → (as_entered (unit_kept stash) asked ≡ asked) × (stash_left stash asked ≡ stash)
-plain_entered None asked e = (refl, refl)
-plain_entered (Some kept) asked e = (ap (λ b. cond b (act.Compiled (Some kept.unit) true) asked) e, ap (λ b. cond b None (Some kept)) e)
-
-pub awaited_entered : {Item : Type 0} (kept : Stash Item) (asked : Acts) → is_awaited (Some kept.unit) asked ≡ true → (as_entered (Some kept.unit) asked ≡ act.Compiled (Some kept.unit) true) × (stash_left (Some kept) asked ≡ None)
-awaited_entered kept asked e = (ap (λ b. cond b (act.Compiled (Some kept.unit) true) asked) e, ap (λ b. cond b None (Some kept)) e)
-
--- the report with an item may be asked where the one without may
-awaited_range : (project : ProjectView) (unit : ℕ) (asked : Acts) → is_awaited (Some unit) asked ≡ true → is_out_of_range project asked ≡ is_out_of_range project (act.Compiled (Some unit) true)
-awaited_range project unit (act.Compiled (Some named) stored) e = ap (λ (u : ℕ). is_out_of_range project (act.Compiled (Some u) true)) (eqb-true named unit e)
-awaited_range project unit (act.Compiled None stored) e = absurd cc
-awaited_range project unit act.Open e = absurd cc
-awaited_range project unit (act.Hello version named) e = absurd cc
-awaited_range project unit act.Repo e = absurd cc
-awaited_range project unit (act.Export named) e = absurd cc
-awaited_range project unit (act.Import named only) e = absurd cc
-awaited_range project unit (act.Translate header) e = absurd cc
-awaited_range project unit (act.Bad why) e = absurd cc
-awaited_range project unit act.Pause e = absurd cc
-awaited_range project unit act.Left e = absurd cc
-awaited_range project unit act.Lost e = absurd cc
-awaited_range project unit act.Done e = absurd cc
-
-pub awaited_in_range : (project : ProjectView) (unit : ℕ) (asked : Acts) → is_awaited (Some unit) asked ≡ true → CanAsk project asked → IsFalse (is_out_of_range project (act.Compiled (Some unit) true))
-awaited_in_range project unit asked e can = sym (awaited_range project unit asked e) ∙ can.range
-
 -- the first of the acts as it is entered, and the others
 stored-next : {Item : Type 0} (stash : Option (Stash Item)) (asked : Acts) (rest : List Acts) → stored_for (unit_kept stash) (asked ∷ rest) ≡ as_entered (unit_kept stash) asked ∷ stored_for (unit_kept (stash_left stash asked)) rest
 stored-next None asked rest = refl
@@ -199,10 +169,6 @@ behind_next (Some kept) asked rest = by (reports kept.unit asked)
     by : (b : Bool) → cond (b || list_any (reports kept.unit) rest) None (Some kept) ≡ stash_behind (cond b None (Some kept)) rest
     by true = refl
     by false = refl
-
-behind_none : {Item : Type 0} (stash : Option (Stash Item)) → stash_behind stash [] ≡ stash
-behind_none None = refl
-behind_none (Some kept) = refl
 
 -- ---- line by line
 
@@ -248,10 +214,6 @@ lines_begin conn asked kept old desk can serving = record {
 module _ {Item Held : Type 0} (conn : ℕ) (asked : List Asked) (k : ℕ) (kept left : Option (Stash Item)) (old now : List ℕ) (first before : DeskState Held) (h : EntersSoFar conn asked k kept left old now first before) where
   can_now : (line : Asked) → drop k asked ≡ line ∷ drop (k + 1) asked → LineCanAsk first.seen.project line × AllByRecursion (LineCanAsk first.seen.project) (drop (k + 1) asked)
   can_now line next = subst (λ (xs : List Asked). AllByRecursion (LineCanAsk first.seen.project) xs) next h.can
-
-  -- the next line may be asked
-  pub line_can : (line : Asked) → drop k asked ≡ line ∷ drop (k + 1) asked → LineCanAsk before.seen.project line
-  line_can line next = subst (λ (p : ProjectView). LineCanAsk p line) (sym h.entered.stays.project) (can_now line next).0
 
   -- the act as it is entered
   abbrev entered_as : Acts → Acts
@@ -326,22 +288,10 @@ module _ {Item Held : Type 0} (conn : ℕ) (asked : List Asked) (k : ℕ) (kept 
   pub places_end : length asked ≤ k → length now ≡ length old + length (requests_of asked)
   places_end le = omega (arith, ap length h.places, length-append old h.requested, h.as_many, ap (λ (xs : List Asked). length (requests_of xs)) (drop_all k asked le))
 
-  pub lines_end : length asked ≤ k → ((requested : List ℕ) × Enters conn (stored_for (unit_kept kept) (requests_of asked)) requested first before × (now ≡ old ++ requested)) × (left ≡ stash_behind kept (requests_of asked))
-  lines_end le =
-      let none : drop k asked ≡ [] = drop_all k asked le in
-      let all : h.done ≡ stored_for (unit_kept kept) (requests_of asked) =
-      sym (append-nil h.done) ∙ ap (λ (xs : List Acts). h.done ++ xs) (sym (stored_none (unit_kept left))) ∙ ap (λ (xs : List Asked). h.done ++ stored_for (unit_kept left) (requests_of xs)) (sym none) ∙ h.acts in (
-        (h.requested, subst (λ (xs : List Acts). Enters conn xs h.requested first before) all h.entered, h.places),
-        sym (behind_none left) ∙ ap (λ (xs : List Asked). stash_behind left (requests_of xs)) (sym none) ∙ h.left_is,
-      )
-
 -- ---- a block
 
 refused_enters : (lines : List Asked) → is_refused lines ≡ true → entered_by lines ≡ []
 refused_enters lines e = ap (λ b. cond b [] (requests_of lines ++ act.Pause ∷ [])) e
-
-pub good_enters : (lines : List Asked) → is_refused lines ≡ false → entered_by lines ≡ requests_of lines ++ act.Pause ∷ []
-good_enters lines e = ap (λ b. cond b [] (requests_of lines ++ act.Pause ∷ [])) e
 
 with_pause : (unit : ℕ) (asked : List Acts) → with_item unit (asked ++ act.Pause ∷ []) ≡ with_item unit asked ++ act.Pause ∷ []
 with_pause unit [] = refl
@@ -356,24 +306,10 @@ stored_pause : (kept : Option ℕ) (asked : List Acts) → stored_for kept (aske
 stored_pause None asked = refl
 stored_pause (Some unit) asked = with_pause unit asked
 
-no_report : (unit : ℕ) (asked : List Acts) → list_any (reports unit) (asked ++ act.Pause ∷ []) ≡ list_any (reports unit) asked
-no_report unit [] = refl
-no_report unit (a ∷ asked) = ap (λ b. reports unit a || b) (no_report unit asked)
-
-behind_pause : {Item : Type 0} (stash : Option (Stash Item)) (asked : List Acts) → stash_behind stash (asked ++ act.Pause ∷ []) ≡ stash_behind stash asked
-behind_pause None asked = refl
-behind_pause (Some kept) asked = ap (λ b. cond b None (Some kept)) (no_report kept.unit asked)
-
 pub refused_so : {Held : Type 0} (conn : ℕ) (kept : Option ℕ) (lines : List Asked) (desk : DeskState Held) (old : List ℕ) → is_refused lines ≡ true
     → (requested : List ℕ) × Enters conn (stored_for kept (entered_by lines)) requested desk desk × (old ≡ old ++ requested)
 refused_so {Held} conn kept lines desk old e =
     ([], subst (λ (xs : List Acts). Enters conn xs [] desk desk) (sym (ap (stored_for kept) (refused_enters lines e) ∙ stored_none kept)) (enters_nothing conn desk), sym (append-nil old))
-
-pub refused_left : {Item : Type 0} (stash : Option (Stash Item)) (lines : List Asked) → is_refused lines ≡ true → stash ≡ stash_behind stash (entered_by lines)
-refused_left stash lines e = sym (ap (stash_behind stash) (refused_enters lines e) ∙ behind_none stash)
-
-pub good_left : {Item : Type 0} (stash : Option (Stash Item)) (lines : List Asked) → is_refused lines ≡ false → stash_behind stash (requests_of lines) ≡ stash_behind stash (entered_by lines)
-good_left stash lines e = sym (ap (stash_behind stash) (good_enters lines e) ∙ behind_pause stash (requests_of lines))
 
 module _ {Held : Type 0} (conn : ℕ) (kept : Option ℕ) (lines : List Asked) (first before after : DeskState Held) where
   -- all was entered, and the Pause
@@ -422,10 +358,6 @@ block_ends (Ok done) conn kept lines requested old new first before after h plac
     ((requested, paused conn kept lines first before after requested adds.0 h serving sound adds.1, places), serving_adds conn act.Pause adds.0 before after refl serving sound adds.1)
 block_ends (Err full) conn kept lines requested old new first before after h places serving sound adds looks is_full =
     ((requested, not_paused conn kept lines first before after requested full h serving sound looks is_full, places), serving_looks conn before after serving sound looks)
-
-pub ok_left : {Item : Type 0} (result : Result (Unit {0}) Full) (kept left : Option (Stash Item)) (lines : List Asked) → is_refused lines ≡ false → IfOk result (λ _. left ≡ stash_behind kept (requests_of lines)) → IfOk result (λ _. left ≡ stash_behind kept (entered_by lines))
-ok_left (Ok done) kept left lines good e = e ∙ good_left kept lines good
-ok_left (Err full) kept left lines good e = tt
 
 -- ---- how many requests there are
 

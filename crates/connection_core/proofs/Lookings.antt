@@ -1,6 +1,6 @@
 -- Answers that are looked at, one place after another.
-use Rattle.std.proofs.Common.{◌≡◌, ℕ, zero, suc, ◌+◌, ◌<◌, ◌≤◌, Bool, true, false, cond, List, [], ◌∷◌, ◌++◌, length, take, drop, Option, Some, None, refl, sym, ap, subst, ◌∙◌, append_assoc, arith}
-use Rattle.std.proofs.lemmas.List.{append-nil, length-append}
+use Rattle.std.proofs.Common.{◌≡◌, ℕ, false, cond, List, [], ◌∷◌, ◌++◌, length, Option, Some, None, refl, sym, ap, ◌∙◌, append_assoc, arith}
+use Rattle.std.proofs.lemmas.List.{append-nil}
 use Rattle.histories.specs.declared.answer.Answer.{Answer}
 use Rattle.connection_replies.specs.declared.line_reply.LineReply.{LineReply}
 use Rattle.connection_replies.specs.declared.line_reply.LineReply.TheVariants as line
@@ -8,9 +8,8 @@ use Rattle.registry_core.specs.Ledgers.{reply_at}
 use Rattle.registry_core.specs.Desks.{DeskState, Looks}
 use Rattle.registry_core.proofs.Desks.{reply_stays, looks_go_on, stays_same}
 use Rattle.connection_core.specs.declared.asked.Asked.{Asked}
-use Rattle.connection_core.specs.declared.asked.Asked.TheVariants.{Act, Malformed}
 use Rattle.connection_core.specs.Asking.{is_refused}
-use Rattle.connection_core.specs.Answers.{answer_first, dealt, replies_to, refusals, refusals_from, refusal}
+use Rattle.connection_core.specs.Answers.{answer_first, dealt, replies_to, refusals}
 use Rattle.connection_core.specs.Replying.{looked}
 
 pub looks_same : {Held : Type 0} (desk : DeskState Held) → Looks desk desk
@@ -56,17 +55,6 @@ dealt_looked f (a ∷ lines) (p ∷ places) e = ap (answer_first (f p)) (dealt_l
 
 pub good_replies : (f : ℕ → Option Answer) (lines : List Asked) (places : List ℕ) → is_refused lines ≡ false → length places ≡ length lines → replies_to f lines places ≡ looked f places
 good_replies f lines places good e = ap (λ b. cond b (Some (refusals lines)) (dealt f lines places)) good ∙ dealt_looked f lines places e
-
-pub bad_replies : (f : ℕ → Option Answer) (lines : List Asked) (places : List ℕ) → is_refused lines ≡ true → replies_to f lines places ≡ Some (refusals lines)
-bad_replies f lines places bad = ap (λ b. cond b (Some (refusals lines)) (dealt f lines places)) bad
-
--- one line of a refused block more
-pub refusals-next : (first n k : ℕ) (lines : List Asked) (asked : Asked) (before after whole : List LineReply) → n ≡ k + 1 → drop k lines ≡ asked ∷ drop (k + 1) lines → after ≡ before ++ refusal first n asked ∷ []
-    → before ++ refusals_from first (k + 1) (drop k lines) ≡ whole → after ++ refusals_from first ((k + 1) + 1) (drop (k + 1) lines) ≡ whole
-refusals-next first n k lines asked before after whole number next pushed h =
-    ap (λ (xs : List LineReply). xs ++ refusals_from first ((k + 1) + 1) (drop (k + 1) lines)) (pushed ∙ ap (λ m. before ++ refusal first m asked ∷ []) number)
-    ∙ append_assoc before (refusal first (k + 1) asked ∷ []) (refusals_from first ((k + 1) + 1) (drop (k + 1) lines))
-    ∙ ap (λ (xs : List Asked). before ++ refusals_from first (k + 1) xs) (sym next) ∙ h
 
 pub pushed_reply : (old given before after : List LineReply) (newest : LineReply) → after ≡ before ++ newest ∷ [] → before ≡ old ++ given → after ≡ old ++ (given ++ newest ∷ [])
 pushed_reply old given before after newest e h = e ∙ ap (λ (xs : List LineReply). xs ++ newest ∷ []) h ∙ append_assoc old given (newest ∷ [])

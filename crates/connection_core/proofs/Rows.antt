@@ -1,5 +1,5 @@
 -- Worked connections, each alone over a project of four units, which the definitions compute.
-use Rattle.std.proofs.Common.{◌≡◌, ℕ, ◌+◌, ◌%◌, true, false, List, [], ◌∷◌, ◌++◌, length, Option, Some, None, refl}
+use Rattle.std.proofs.Common.{◌≡◌, ℕ, false, List, [], ◌∷◌, ◌++◌, Some, None, refl}
 use Rattle.std.specs.Prelude.{codes}
 use Rattle.std.specs.Fmt.{digits}
 use Rattle.cody_words.specs.Octets.{newline}
@@ -9,12 +9,9 @@ use Rattle.cody_batches.specs.Blocks.{blocks}
 use Rattle.header_units.specs.CmiNames.{cmi_stem}
 use Rattle.mapper_requests.specs.Requests.{request}
 use Rattle.mapper_requests.specs.Numbers as numbers
-use Rattle.mapper_requests.specs.declared.request.Bad.TheVariants.{BadNumber}
 use Rattle.unit_registry.specs.declared.kind.Kind.TheVariants.{Module, Header, Plain}
-use Rattle.unit_registry.specs.declared.act.Act.{Act}
-use Rattle.unit_registry.specs.declared.act.Act.TheVariants.{Open, Hello, Repo, Export, Import, Compiled, Translate, Bad, Pause, Left, Lost, Done}
+use Rattle.unit_registry.specs.declared.act.Act.TheVariants.{Open, Hello, Repo, Export, Import, Pause, Lost, Done}
 use Rattle.unit_registry.specs.Projects.{ProjectView, find_by}
-use Rattle.histories.specs.declared.entry.Entry.{Entry}
 use Rattle.connection_core.specs.Asking.{Block, acts}
 use Rattle.connection_core.specs.Answers.{answers}
 use Rattle.connection_core.specs.Alone.{alone, own_answers, solo_by}

@@ -18,10 +18,9 @@ use Rattle.connection_core.specs.declared.conn_end.ConnEnd.{ConnEnd}
 use Rattle.connection_core.specs.declared.conn_end.ConnEnd.TheVariants.{Closed, Truncated, ReadFault, WriteFault, TooLong, BatchTooLong, HistoryFull}
 use Rattle.connection_core.specs.declared.conn_end.Took.{Took}
 use Rattle.connection_core.specs.declared.conn_end.Took.TheVariants as took
-use Rattle.connection_core.specs.Asking.{asked_of}
 use Rattle.connection_core.specs.Standing.{ReaderState, ReaderStands, end_in}
-use Rattle.connection_core.specs.Taking.{Takes, TakesBlock, IsLimit}
-use Rattle.connection_core.specs.Sessions.{SessionState, HasRoomFor, EntersTook, EndsTaking, ended, due, due_in}
+use Rattle.connection_core.specs.Taking.{TakesBlock, IsLimit}
+use Rattle.connection_core.specs.Sessions.{SessionState, HasRoomFor, EntersTook, KeepsStash, EndsTaking, due, due_in}
 use Rattle.connection_core.specs.Working.{StageAfter, IsReadLimit}
 use Rattle.connection_core.proofs.Askable.{kept_length}
 
@@ -54,6 +53,18 @@ reads_nothing (took.Ended Closed) at old new desk none h = absurd h.1
 reads_nothing (took.Ended (Truncated lines)) at old new desk none h = absurd h.1
 reads_nothing (took.Ended ReadFault) at old new desk none h = absurd h.1
 reads_nothing (took.Ended WriteFault) at old new desk none h = absurd h.1
+
+-- a piece that leaves the item as it is, whatever it brought
+pub stash_kept : {Item : Type 0} (result : Took) (old new : SessionState Item) → new.stash ≡ old.stash → KeepsStash result old new
+stash_kept took.All old new h = h
+stash_kept (took.Block used) old new h = tt
+stash_kept (took.Ended (HistoryFull entries kept)) old new h = tt
+stash_kept (took.Ended Closed) old new h = h
+stash_kept (took.Ended (Truncated lines)) old new h = h
+stash_kept (took.Ended ReadFault) old new h = h
+stash_kept (took.Ended WriteFault) old new h = h
+stash_kept (took.Ended TooLong) old new h = h
+stash_kept (took.Ended BatchTooLong) old new h = h
 
 -- a reader knows of no history
 pub reads_not_full : (result : Took) (at : Stage) → StageAfter result at → (entries reserved : ℕ) → result ≡ took.Ended (HistoryFull entries reserved) → ⊥

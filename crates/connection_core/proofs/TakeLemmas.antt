@@ -1,5 +1,5 @@
 -- What a reader of blocks takes of a piece.
-use Rattle.std.proofs.Common.{◌≡◌, ◌≢◌, ℕ, ◌+◌, ◌-◌, ◌<◌, ◌≤◌, true, false, List, [], ◌∷◌, ◌++◌, length, map, take, drop, refl, sym, ap, subst, ◌∙◌, append_assoc, arith, All, Some}
+use Rattle.std.proofs.Common.{◌≡◌, ◌≢◌, ℕ, ◌+◌, ◌-◌, ◌<◌, ◌≤◌, true, List, [], ◌∷◌, ◌++◌, length, take, drop, refl, sym, ap, subst, ◌∙◌, append_assoc, arith, All}
 use Rattle.std.proofs.lemmas.List.{length-append, length_push, append-nil, length-take, take-append-drop, take-append-le}
 use Rattle.std.proofs.Math.Seq.{take-add}
 use Rattle.cody_words.specs.Octets.{newline}
@@ -11,9 +11,7 @@ use Rattle.cody_batches.proofs.LimitLaws.{taken_at_octets_limit, taken_at_lines_
 use Rattle.connection_core.specs.declared.block_reader.Stage.{Stage}
 use Rattle.connection_core.specs.declared.block_reader.Stage.TheVariants as stage
 use Rattle.unit_registry.specs.Projects.{ProjectView}
-use Rattle.connection_core.specs.declared.asked.Asked.{Asked}
 use Rattle.connection_core.specs.Asking.{Block, asked_of}
-use Rattle.connection_core.specs.declared.conn_end.ConnEnd.{ConnEnd}
 use Rattle.connection_core.specs.Standing.{ReaderState, ReaderStands, Keeps}
 use Rattle.connection_core.specs.declared.conn_end.ConnEnd.TheVariants.{Closed, Truncated, ReadFault, WriteFault, TooLong, BatchTooLong, HistoryFull}
 use Rattle.connection_core.specs.declared.conn_end.Took.{Took}

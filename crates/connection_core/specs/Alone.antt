@@ -1,5 +1,5 @@
 -- The history of a connection that is served alone.
-use Rattle.std.specs.Prelude.{ℕ, ◌-◌, ◌&&◌, ◌==◌, Bool, false, nat_le, nat_lt, if◌then◌else◌, List, [], ◌∷◌, ◌++◌, length, map, take, Option, Some, None}
+use Rattle.std.specs.Prelude.{ℕ, ◌-◌, ◌&&◌, ◌==◌, Bool, false, nat_le, nat_lt, if◌then◌else◌, List, [], ◌∷◌, ◌++◌, length, map, take, Option}
 use Rattle.std.specs.Option.{option_map_or}
 use Rattle.cody_batches.specs.Blocks.{taken}
 use Rattle.unit_registry.specs.declared.act.Act.{Act as Acts}

@@ -1,7 +1,6 @@
 -- What the lines of blocks ask, and the acts that blocks enter.
-use Rattle.std.specs.Prelude.{ℕ, ◌&&◌, ◌==◌, Bool, true, false, if◌then◌else◌, List, [], ◌∷◌, ◌++◌, map, filter_map, Option, Some, None}
+use Rattle.std.specs.Prelude.{ℕ, ◌==◌, Bool, true, false, if◌then◌else◌, List, [], ◌∷◌, ◌++◌, map, filter_map, Option, Some, None}
 use Rattle.std.specs.List.{flat_map, list_any}
-use Rattle.cody_words.specs.declared.reason.Reason.{Reason}
 use Rattle.cody_words.specs.Lines.{Meaning, Blank, Words, Malformed as MalformedLine}
 use Rattle.cody_words.specs.Meanings.{meaning}
 use Rattle.mapper_requests.specs.declared.request.Bad.TheVariants.{UnknownVerb}

@@ -1,5 +1,5 @@
 -- How a connection stands in the history when it has ended.
-use Rattle.std.specs.Prelude.{◌≡◌, ◌≢◌, ℕ, ◌+◌, ◌≤◌, ◌<◌, ◌⊎◌, true, false, List, [], ◌∷◌, ◌++◌, length, take, Option, Some}
+use Rattle.std.specs.Prelude.{◌≡◌, ◌≢◌, ℕ, ◌+◌, ◌≤◌, ◌<◌, ◌⊎◌, true, false, List, [], ◌∷◌, ◌++◌, length, take, Some}
 use Rattle.mm_outside.specs.Octets.{Octets}
 use Rattle.mm_outside.specs.Causes.{Rose}
 use Rattle.cody_batches.specs.Blocks.{blocks, held, taken, has_long_block, most_octets, PassesLimits}
@@ -94,7 +94,8 @@ module _ (project : ProjectView) (workers limit : ℕ) (history : List Entry) (c
     pub ends : Ends how link
     pub limits : PassesLimits link.read → (status_of how ≡ 8) ⊎ (status_of how ≡ 5) ⊎ (status_of how ≡ 9)
 
--- a connection ends by a fault of the link exactly where one came: the count of such faults rose, and else it is as it was
+-- a connection ends by a fault of the link exactly where one came: the count of such faults rose, and else it is as it
+-- was
 pub record HasCauses (reads_before reads_now writes_before writes_now : ℕ) (how : ConnEnd) : Type 0 where
   pub read : how ≡ ReadFault → Rose reads_before reads_now
   pub write : how ≡ WriteFault → Rose writes_before writes_now

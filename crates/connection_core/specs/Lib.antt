@@ -2,6 +2,7 @@ pub mod Asking
 pub mod Answers
 pub mod Ends
 pub mod Alone
+pub mod Serving
 pub mod Standing
 pub mod Taking
 pub mod Entering

@@ -1,5 +1,5 @@
 -- What a session keeps, and what its calls come to at a desk and a link.
-use Rattle.std.specs.Prelude.{◌≡◌, ℕ, ◌+◌, ◌≤◌, true, false, List, [], ◌∷◌, length, Contains, Option, Some, None, Result, Ok, Err, ⊤}
+use Rattle.std.specs.Prelude.{◌≡◌, ℕ, ◌+◌, ◌≤◌, true, false, List, [], length, Contains, Option, Some, None, Result, Ok, Err, ⊤}
 use Rattle.mm_outside.specs.declared.errors.Failed.{Failed}
 use Rattle.mm_outside.specs.Octets.{Octets}
 use Rattle.mm_outside.specs.Sending.{Sends}
@@ -74,6 +74,14 @@ module _ {Item : Type 0} where
   EntersTook (took.Ended (HistoryFull entries kept)) old new before after =
       EntersPart old.conn (acts_due old new) (record { entries = entries; reserved = kept }) before after
   EntersTook (took.Ended how) old new before after = after ≡ before
+
+  -- A piece leaves the kept item as it is where no block ended in it, and where it brought an end but a full history.
+  -- What is left of the item behind a block stands in `EntersTook`.
+  abbrev pub KeepsStash : Took → SessionState Item → SessionState Item → Type 0
+  KeepsStash took.All old new = new.stash ≡ old.stash
+  KeepsStash (took.Block used) old new = ⊤
+  KeepsStash (took.Ended (HistoryFull entries kept)) old new = ⊤
+  KeepsStash (took.Ended how) old new = new.stash ≡ old.stash
 
   -- a piece that entered nothing: no block ended in it, or a refused one
   abbrev pub EntersNothing : Took → SessionState Item → Type 0

@@ -1,5 +1,5 @@
 -- What a session answers to a piece of input and at the end of its input.
-use Rattle.std.specs.Prelude.{◌≡◌, ℕ, zero, suc, ◌+◌, ◌<◌, ◌≤◌, true, false, List, [], ◌∷◌, ◌++◌, Some, None, length, take, ⊤}
+use Rattle.std.specs.Prelude.{◌≡◌, ℕ, zero, suc, ◌+◌, ◌<◌, ◌≤◌, true, false, List, [], ◌∷◌, ◌++◌, length, take, ⊤}
 use Rattle.cody_batches.specs.Blocks.{blocks, taken, has_long_block, most_octets}
 use Rattle.unit_registry.specs.Projects.{ProjectView}
 use Rattle.connection_core.specs.declared.block_reader.Stage.TheVariants as stage
@@ -30,7 +30,8 @@ pub record TakesBlock (project : ProjectView) (fed piece : List ℕ) (used : ℕ
   pub stands : ReaderStands new project (fed ++ take used piece)
   pub kept : new.asked ≡ asked_of project block
 
--- a block has more lines than a block may have, within the octets of a connection; those that ended so far are all that are taken
+-- a block has more lines than a block may have, within the octets of a connection; those that ended so far are all
+-- that are taken
 pub record PassesLines (fed piece : List ℕ) : Type 0 where
   pub taken_are : taken (fed ++ piece) ≡ blocks fed
   pub long : has_long_block (take most_octets (fed ++ piece)) ≡ true

@@ -1,4 +1,5 @@
--- How a reader of blocks works: working definitions of private functions and of the type's invariant, and no part of what it means.
+-- How a reader of blocks works: working definitions of private functions and of the type's invariant, and no part of
+-- what it means.
 use Rattle.std.specs.Prelude.{◌≡◌, ℕ, ◌+◌, ◌<◌, ◌≤◌, true, false, List, [], ◌∷◌, ◌++◌, length, drop, Option}
 use Rattle.std.specs.List.{AllByRecursion}
 use Rattle.cody_batches.specs.declared.intake.Step.{Step}
@@ -24,8 +25,8 @@ use Rattle.registry_core.specs.Desks.{DeskState}
 use Rattle.connection_core.specs.declared.entering.Stash.{Stash}
 use Rattle.connection_core.specs.Asking.{Block, asked_of, requests_of, stored_for}
 use Rattle.connection_core.specs.Entering.{Enters, IsServing, LineCanAsk, stash_behind, unit_kept}
-use Rattle.connection_core.specs.Standing.{ReaderState, ReaderStands, end_in}
-use Rattle.connection_core.specs.Taking.{TakesAll, TakesBlock, PassesLines, IsLimit}
+use Rattle.connection_core.specs.Standing.{ReaderState, ReaderStands}
+use Rattle.connection_core.specs.Taking.{TakesAll, TakesBlock, PassesLines}
 
 -- what a step of the intake brings, with the words that stand then
 abbrev pub note_of : ProjectView → Step → List (List ℕ) → Note

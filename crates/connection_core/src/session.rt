@@ -1,6 +1,6 @@
 //! The session of one connection.
 
-ghost use Rattle.std.specs.Prelude.{◌≡◌, ◌≢◌, ◌≤◌, ◌+◌, List, ℕ, [], length, IfOk, None, Some, IsTrue, true};
+ghost use Rattle.std.specs.Prelude.{◌≡◌, ◌≢◌, ◌≤◌, List, ℕ, [], length, IfOk, None, Some, IsTrue, true};
 ghost use Rattle.mm_outside.specs.Causes.{HasCause};
 ghost use Rattle.cody_batches.specs.Blocks.{held, most_octets};
 ghost use Rattle.unit_registry.specs.Projects.{ProjectView};
@@ -9,7 +9,7 @@ ghost use Rattle.connection_core.specs.declared.conn_end.ConnEnd.{ConnEnd};
 ghost use Rattle.connection_core.specs.Asking.{is_refused};
 ghost use Rattle.connection_core.specs.Taking.{Takes, CountsTaken, IsEndOfInput, end_holding};
 ghost use Rattle.connection_core.specs.Entering.{Fits, IsServing};
-ghost use Rattle.connection_core.specs.Sessions.{StandsAfter, ended, IsIdle, octets_taken, lines_of, HasRoomFor, EntersTook, EntersNothing, EndsTaking, RepliesSo, EndsReplying, as_result};
+ghost use Rattle.connection_core.specs.Sessions.{StandsAfter, ended, IsIdle, octets_taken, lines_of, HasRoomFor, EntersTook, EntersNothing, KeepsStash, EndsTaking, RepliesSo, EndsReplying, as_result};
 
 use crate::block_reader::{BlockReader, Stage};
 use crate::conn_end::{ConnEnd, Took, Turn};
@@ -108,14 +108,14 @@ impl<I> Session<I> {
 
     /// Takes octets of the connection's input, up to the end of the first block that ends in the piece, and enters what
     /// that block asks: its requests in order and then a Pause, or nothing where a line of it is malformed. The first
-    /// report of a unit for which an item is kept is entered with the item. After `Block` the rest of the piece is to be
-    /// taken, when `try_replies` has written the block's replies.
+    /// report of a unit for which an item is kept is entered with the item, and else the item stays. After `Block` the
+    /// rest of the piece is to be taken, when `try_replies` has written the block's replies.
     ///
     /// # Ends
     ///
-    /// `TooLong` exactly at octet 67,108,865 since `reset`, `BatchTooLong` exactly where line 1,025 of a block ends, and
-    /// `HistoryFull` where the desk has no room for an act, with its numbers, and never where it has room for the acts
-    /// of the block's lines and a Pause; what comes first is answered. An end stays: every later call but `reset`
+    /// `TooLong` exactly at octet 67,108,865 since `reset`, `BatchTooLong` exactly where line 1,025 of a block ends,
+    /// and `HistoryFull` where the desk has no room for an act, with its numbers, and never where it has room for the
+    /// acts of the block's lines and a Pause; what comes first is answered. An end stays: every later call but `reset`
     /// answers it, and enters and writes nothing.
     pub fn take<D: Desk<Item = I>>(&mut self, project: &Project, piece: &[u8], desk: &mut D) -> Took
     where
@@ -140,7 +140,7 @@ impl<I> Session<I> {
         ensures count { CountsTaken (length piece.now) result
             (octets_taken self.old) (octets_taken self.new) }
         ensures bound { ended self.old ≡ None → octets_taken self.new ≤ most_octets }
-        ensures stash { result ≡ Took.All → self.new.stash ≡ self.old.stash }
+        ensures stash { KeepsStash result self.old self.new }
         ensures end { EndsTaking result self.old self.new }
         ensures serving { ended self.old ≡ None → IsServing self.old.conn (D.tells desk.new) }
         ensures conn { self.new.conn ≡ self.old.conn }

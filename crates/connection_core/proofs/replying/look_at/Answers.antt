@@ -1,4 +1,4 @@
-use Rattle.std.proofs.Common.{take, rules, arith}
+use Rattle.std.proofs.Common.{take, rules}
 use Rattle.std.proofs.lemmas.List.{take_more}
 use Rattle.registry_core.proofs.Desks.{looks_further}
 use Rattle.connection_core.proofs.Lookings.{looks_more, pushed_reply}

@@ -1,4 +1,4 @@
-use Rattle.std.proofs.Common.{◌≡◌, ◌++◌, ◌-◌, refl, sym, ap, ◌∙◌, arith}
+use Rattle.std.proofs.Common.{◌≡◌, ◌++◌, ◌-◌, sym, ap, arith}
 use Rattle.std.proofs.lemmas.List.{take-append-drop}
 use Rattle.connection_core.proofs.TakeLemmas.{takes_lines, passes_octets, front_takes, front_counts}
 use Rattle.connection_core.proofs.block_reader.BlockReader.read.Goals as goal

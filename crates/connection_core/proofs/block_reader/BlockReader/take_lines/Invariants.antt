@@ -1,6 +1,6 @@
 use Rattle.std.proofs.Common.{◌≡◌, ℕ, ◌+◌, ◌-◌, ◌≤◌, List, length, take}
 use Rattle.connection_core.specs.Standing.{ReaderStands}
-use Rattle.connection_core.specs.Working.{GoesOn, StandsSomewhere}
+use Rattle.connection_core.specs.Working.{GoesOn}
 use Rattle.connection_core.specs.declared.block_reader.Stage.TheVariants as stage
 use Rattle.connection_core.proofs.block_reader.BlockReader.take_lines.Given as goal
 

@@ -1,7 +1,7 @@
-use Rattle.std.proofs.Common.{sym, ap, subst, ◌∙◌, refl, rules, arith}
+use Rattle.std.proofs.Common.{sym, ap, subst, ◌∙◌, arith}
 use Rattle.connection_core.specs.Standing.{ReaderStands}
 use Rattle.connection_core.proofs.Askable.{block_can}
-use Rattle.connection_core.proofs.Sessioning.{not_ended, reads_end, reads_nothing, reads_not_full, block_room}
+use Rattle.connection_core.proofs.Sessioning.{not_ended, reads_end, reads_nothing, reads_not_full, stash_kept, block_room}
 use Rattle.connection_core.proofs.session.Session.take.Goals as goal
 
 pub enter_block-requires : goal.enter_block-requires
@@ -26,6 +26,9 @@ returns-in_default-read-clause-entered g c = λ going. reads_nothing c.read.resu
 
 pub returns-in_default-read-clause-end : goal.returns-in_default-read-clause-end
 returns-in_default-read-clause-end g c = reads_end c.read.result _ _ c.read.ensures.stage
+
+pub returns-in_default-read-clause-stash : goal.returns-in_default-read-clause-stash
+returns-in_default-read-clause-stash g c = stash_kept c.read.result _ _ (ap (λ s. s.stash) c.self.view_is)
 
 pub returns-in-Err-clause-roomy : goal.returns-in-Err-clause-roomy
 returns-in-Err-clause-roomy g c = λ going room entries reserved same.
