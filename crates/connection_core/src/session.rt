@@ -108,8 +108,9 @@ impl<I> Session<I> {
 
     /// Takes octets of the connection's input, up to the end of the first block that ends in the piece, and enters what
     /// that block asks: its requests in order and then a Pause, or nothing where a line of it is malformed. The first
-    /// report of a unit for which an item is kept is entered with the item, and else the item stays. After `Block` the
-    /// rest of the piece is to be taken, when `try_replies` has written the block's replies.
+    /// report of a unit for which an item is kept is entered with the item; else the item stays, unless `HistoryFull`
+    /// is answered. After `Block` the rest of the piece is to be taken, when `try_replies` has written the block's
+    /// replies.
     ///
     /// # Ends
     ///
