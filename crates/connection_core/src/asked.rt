@@ -1,6 +1,6 @@
 //! What a session keeps of the lines of a block.
 
-ghost use Rattle.std.specs.Prelude.{◌≡◌, ◌<◌, length};
+ghost use Rattle.std.specs.Prelude.{◌≡◌};
 ghost use Rattle.connection_core.specs.Asking.{is_malformed, is_refused};
 ghost use Rattle.connection_core.specs.Working.{note_of, HasWords};
 

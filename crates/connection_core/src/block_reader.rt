@@ -4,7 +4,7 @@ ghost use Rattle.std.specs.Prelude.{◌≡◌, ◌≢◌, ◌<◌, ◌≤◌, �
 ghost use Rattle.cody_words.specs.Octets.{newline};
 ghost use Rattle.cody_batches.specs.Blocks.{most_lines, most_octets, held};
 ghost use Rattle.unit_registry.specs.Projects.{ProjectView};
-ghost use Rattle.connection_core.specs.Standing.{ReaderStands, end_in};
+ghost use Rattle.connection_core.specs.Standing.{ReaderStands};
 ghost use Rattle.connection_core.specs.Taking.{Takes, CountsTaken, IsEndOfInput, end_holding};
 ghost use Rattle.connection_core.specs.Working.{GoesOn, StageAfter, StandsSomewhere, TakesLine, TakesLines};
 

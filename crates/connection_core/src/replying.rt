@@ -1,6 +1,6 @@
 //! How the lines of a block are answered.
 
-ghost use Rattle.std.specs.Prelude.{◌≡◌, ◌+◌, ◌<◌, ◌≤◌, ◌++◌, ℕ, List, length, position, vec_len, Contains, IfSome, Some, None, true, false};
+ghost use Rattle.std.specs.Prelude.{◌≡◌, ◌+◌, ◌<◌, ◌≤◌, ◌++◌, List, length, position, vec_len, Contains, IfSome, Some, None, true, false};
 ghost use Rattle.std.specs.Vec.{vec_capacity};
 ghost use Rattle.registry_core.specs.Ledgers.{reply_at};
 ghost use Rattle.registry_core.specs.Desks.{Looks, IsSound};

@@ -1,6 +1,6 @@
 //! Writing the line of a reply.
 
-ghost use Rattle.std.specs.Prelude.{◌≡◌, ◌+◌, ◌≤◌, length};
+ghost use Rattle.std.specs.Prelude.{◌+◌, ◌≤◌, length};
 ghost use Rattle.cody_words.specs.Buffers.{Appends};
 ghost use Rattle.header_units.specs.CmiNames.{cmi_name};
 ghost use Rattle.mapper_replies.specs.Values as value;
