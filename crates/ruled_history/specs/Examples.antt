@@ -83,8 +83,8 @@ pub record IsRoomy {Held : Type 0} (desk : DeskState Held) : Type 0 where
   pub worker : desk.opened + desk.dones < desk.share
   pub room_is : desk.room ≡ 3
 
--- a desk of which the connection is open, and that has such a room
-pub record HasRoom {Held : Type 0} (conn room : ℕ) (desk : DeskState Held) : Type 0 where
+-- a desk of which the connection is open, and that has this much room
+pub record HasOpenIn {Held : Type 0} (conn room : ℕ) (desk : DeskState Held) : Type 0 where
   pub own : Contains desk.connections conn
   pub there : IsTrue (is_open_in desk.seen conn)
   pub room_is : desk.room ≡ room
