@@ -23,7 +23,8 @@ pub record BeginsAsOne (text : List ℕ) (count : ℕ) : Type 0 where
   pub good : IsGoodCmi cmi
   pub same : first_lines count (cmi_text cmi) ≡ first_lines count text
 
--- The line of this number, counted from 1, is the first at fault: up to the line before it the text begins as one of an interface, and up to it as none.
+-- The line of this number, counted from 1, is the first at fault: up to the line before it the text begins as one of an
+-- interface, and up to it as none.
 pub record IsFaultyLine (text : List ℕ) (line : ℕ) : Type 0 where
   pub before : ℕ
   pub counted : line ≡ suc before

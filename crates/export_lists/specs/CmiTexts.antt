@@ -65,7 +65,8 @@ pub record AreGood (entries : List Listed) : Type 0 where
   pub few : length entries ≤ most_names
   pub differ : distinct entries ≡ entries
 
--- An interface that may be read: its unit has a name of a module, of a partition or of a header unit, and the entries of its lists may be read.
+-- An interface that may be read: its unit has a name of a module, of a partition or of a header unit, and the entries
+-- of its lists may be read.
 pub record IsGoodCmi (cmi : Cmi) : Type 0 where
   pub named : is_some (name_kind cmi.unit) ≡ true
   pub exports : AreGood cmi.exports

@@ -13,7 +13,8 @@ built_count project = count_by (λ unit. unit.built) project.units
 abbrev pub built_before : ProjectView → ℕ → ℕ
 built_before project number = count_by (λ unit. unit.built) (take number project.units)
 
--- what a unit is made of: its interface, where it was built before, and else what its source reads as. The interfaces are those of the built units in their order
+-- What a unit is made of: its interface, where it was built before, and else what its source reads as. The interfaces
+-- are those of the built units in their order.
 abbrev pub IsMadeOf : Origin → ProjectView → List (List ℕ) → List Cmi → ℕ → Type 0
 IsMadeOf (FromCmi cmi) project sources built number = (is_built project number ≡ true) × (slice_get built (built_before project number) ≡ Some cmi)
 IsMadeOf (FromSource reading) project sources built number = (is_built project number ≡ false) × (text : List ℕ) × (slice_get sources number ≡ Some text) × Source project number text reading

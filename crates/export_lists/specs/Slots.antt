@@ -74,7 +74,8 @@ pub record Within (has more : Interfaces) : Type 0 where
 abbrev pub at_depth : ProjectView → List Origin → ℕ → Interfaces
 at_depth project origins depth unit = option_and_then cmi_in (outcome_at project origins depth unit)
 
--- a table of the units of a project with these origins: the interfaces in it are there at a depth of as many units as are over
+-- a table of the units of a project with these origins: the interfaces in it are there at a depth of as many units as
+-- are over
 pub record IsTable (project : ProjectView) (origins : List Origin) (slots : List Slot) : Type 0 where
   pub are_so_many : length origins ≡ unit_count project
   pub count : length slots ≡ unit_count project

@@ -1,11 +1,10 @@
 //! One step of the lists: what a unit exports and sees over the interfaces of its imports.
 
-ghost use Rattle.std.specs.Prelude.{◌≡◌, ◌≤◌, ◌==◌, ◌||◌, ◌++◌, [], ◌∷◌, length, map, nat_lt, zip, flat_map, slice_get, Some, IfOk, IfErr, OnOk, List, ℕ, Ok};
+ghost use Rattle.std.specs.Prelude.{◌≡◌, ◌≤◌, ◌==◌, length, flat_map, slice_get, IfOk, IfErr, Ok};
 ghost use Rattle.std.specs.List.{position_or_len};
 ghost use Rattle.header_units.specs.Octets.{colon};
-ghost use Rattle.module_units.specs.Rules.{can_export};
-ghost use Rattle.export_lists.specs.Entries.{with_entries, distinct};
-ghost use Rattle.export_lists.specs.Lists.{imported, module_in, is_inside, brings, brought, passes_on, entry_of, own_entries, exports, view};
+ghost use Rattle.export_lists.specs.Entries.{with_entries};
+ghost use Rattle.export_lists.specs.Lists.{imported, module_in, brings, brought, passes_on, exports, view};
 ghost use Rattle.export_lists.specs.Compiling.{is_header, own_exports, is_interface, owner_of, types_in, unknown_lines, is_bad_export, export_lines, is_too_long, compiled, whole, TellsFault};
 ghost use Rattle.export_lists.specs.Lent.{lent};
 ghost use Rattle.export_lists.specs.Types.{Knows};

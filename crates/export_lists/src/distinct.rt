@@ -1,10 +1,8 @@
 //! Entries that are read one by one, no two of which may be equal.
 
-ghost use Rattle.std.specs.Prelude.{◌≡◌, ◌==◌, [], ◌∷◌, ◌++◌, length, map, IfOk};
+ghost use Rattle.std.specs.Prelude.{◌≡◌, ◌==◌, [], length, map, IfOk};
 ghost use Rattle.export_lists.specs.OwnKeys.{seen_own, has_own};
 ghost use Rattle.export_lists.specs.Keys.{key_of};
-ghost use Rattle.std.specs.List.{list_any};
-ghost use Rattle.export_lists.specs.Entries.{is_same};
 ghost use Rattle.export_lists.specs.Drafts.{added, Takes};
 ghost use Rattle.export_lists.specs.declared.distinct.LineError.TheVariants as errors;
 

@@ -1,6 +1,6 @@
 //! Lists of entries, of which the first of equal ones is kept.
 
-ghost use Rattle.std.specs.Prelude.{◌≡◌, [], map, OnOk, IfOk};
+ghost use Rattle.std.specs.Prelude.{◌≡◌, [], map, IfOk};
 ghost use Rattle.export_lists.specs.Entries.{kind_number, with_entry, with_entries};
 ghost use Rattle.export_lists.specs.Lists.{is_taken, own_entries};
 

@@ -1,8 +1,7 @@
 //! Generated projects.
 
-ghost use Rattle.std.specs.Prelude.{◌≡◌, ◌≤◌, ◌++◌, ◌∷◌, [], codes, flat_map, IfOk, OnOk};
-ghost use Rattle.export_lists.specs.Words.{line_of};
-ghost use Rattle.export_lists.specs.Generated.{numbered, export_word, import_line, further_parameters, parameters, ended, head_of, struct_of, function_of, source_of, sources_of, source_path, module_line, module_lines, project_text, generated};
+ghost use Rattle.std.specs.Prelude.{◌≡◌, ◌≤◌, ◌++◌, codes, flat_map, IfOk, OnOk};
+ghost use Rattle.export_lists.specs.Generated.{numbered, export_word, import_line, further_parameters, parameters, ended, function_of, source_of, sources_of, source_path, module_line, module_lines, project_text, generated};
 
 use crate::draws::{Link, draw_links};
 use crate::lines::{append_line, append_three, append_two, digits_of};

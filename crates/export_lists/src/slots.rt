@@ -2,7 +2,7 @@
 
 ghost use Rattle.std.specs.Prelude.{◌≡◌, ◌<◌, ◌≤◌, length, filter_map, IfOk};
 ghost use Rattle.std.specs.List.{All};
-ghost use Rattle.unit_registry.specs.Projects.{unit_count, is_built};
+ghost use Rattle.unit_registry.specs.Projects.{unit_count};
 ghost use Rattle.export_lists.specs.Listings.{built_count, built_before};
 ghost use Rattle.export_lists.specs.Slots.{outcome_in, IsFirstSlot, IsSourceSlot, AreFirstSlots};
 

@@ -1,7 +1,6 @@
 //! The unit that a source is in a project.
 
-ghost use Rattle.std.specs.Prelude.{◌≡◌, ◌<◌, ◌≤◌, ◌&&◌, length, IfOk, IfErr};
-ghost use Rattle.std.specs.Str.{bytes_eq};
+ghost use Rattle.std.specs.Prelude.{◌≡◌, ◌<◌, ◌≤◌, length, IfOk, IfErr};
 ghost use Rattle.module_units.specs.FaultRuns.{first_fault};
 ghost use Rattle.module_units.specs.declared.unit.SourceError.TheVariants as errors;
 ghost use Rattle.unit_registry.specs.Projects.{unit_count};

@@ -1,7 +1,7 @@
 //! The names of types, as a set.
 
 ghost use Rattle.std.specs.Prelude.{◌≡◌, ◌++◌, [], ◌∷◌, slice_get, OnOk, IfOk, List, ℕ};
-ghost use Rattle.export_lists.specs.Compiling.{is_type, is_among, type_name, types_in, types_of, unknown_in, unknown_lines};
+ghost use Rattle.export_lists.specs.Compiling.{is_type, is_among, type_name, types_in, unknown_in, unknown_lines};
 ghost use Rattle.export_lists.specs.Types.{Knows};
 
 use crate::listed::Listed;

@@ -16,7 +16,7 @@ use Rattle.ruled_history.specs.declared.board.View.{View}
 use Rattle.ruled_history.specs.Runs.{StartsWith, times, once_below, AreAllPlaces}
 use Rattle.ruled_history.specs.Seats.{Shared, Sitting}
 use Rattle.ruled_history.specs.Views.{with_entries, joined, Knows, Keeps}
-use Rattle.ruled_history.specs.Examples.{four_units, blank, Placed, at, placed_from, Stand, Made, reporting, importing, both_seats, IsFresh, HasOpen, IsRoomy, HasRoom, Opened, Entered, Greeted, HandsOver, Told, ToldAt, Divided, Finished}
+use Rattle.ruled_history.specs.Examples.{four_units, blank, Placed, at, placed_from, Stand, Made, reporting, importing, both_seats, IsFresh, HasOpen, IsRoomy, HasOpenIn, Opened, Entered, Greeted, HandsOver, Told, ToldAt, Divided, Finished}
 use Rattle.ruled_history.proofs.Counts.{begins_shorter}
 use Rattle.ruled_history.proofs.Closing.{none_behind, none_from}
 
@@ -92,14 +92,14 @@ module _ {Held : Type 0} (before after : DeskState Held) where
 -- ---- calls in a room
 
 module _ {Held : Type 0} (before after : DeskState Held) (conn place : ℕ) (sound : IsSound after) where
-  pub opened_in_room : IsRoomy before → Adds before (entry conn Open) place after → HasRoom conn 1 after
+  pub opened_in_room : IsRoomy before → Adds before (entry conn Open) place after → HasOpenIn conn 1 after
   opened_in_room roomy adds = record {
     own = opens_own before after (entry conn Open) place adds refl;
     there = adds_is_open before after (entry conn Open) place sound adds (inl refl);
     room_is = adds.room ∙ ap (λ (n : ℕ). n - 2) roomy.room_is;
   }
 
-  pub asked_in_room : HasRoom conn 1 before → Adds before (entry conn Repo) place after → HasRoom conn 0 after
+  pub asked_in_room : HasOpenIn conn 1 before → Adds before (entry conn Repo) place after → HasOpenIn conn 0 after
   asked_in_room room adds = record {
     own = adds_own before after (entry conn Repo) place adds conn room.own;
     there = adds_is_open before after (entry conn Repo) place sound adds (inr refl);

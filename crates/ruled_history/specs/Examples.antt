@@ -83,8 +83,8 @@ pub record IsRoomy {Held : Type 0} (desk : DeskState Held) : Type 0 where
   pub worker : desk.opened + desk.dones < desk.share
   pub room_is : desk.room ≡ 3
 
--- a desk of which the connection is open, and that has such a room
-pub record HasRoom {Held : Type 0} (conn room : ℕ) (desk : DeskState Held) : Type 0 where
+-- a desk of which the connection is open, and that has this much room
+pub record HasOpenIn {Held : Type 0} (conn room : ℕ) (desk : DeskState Held) : Type 0 where
   pub own : Contains desk.connections conn
   pub there : IsTrue (is_open_in desk.seen conn)
   pub room_is : desk.room ≡ room
@@ -121,6 +121,17 @@ pub record Told {Held : Type 0} (made : List Placed) (place : ℕ) (answer : Opt
   pub answer_is : answer ≡ reply_at after.seen place
   pub stays : Stays before after
 
+-- the places that the first seat is told of its greeting, its export and its report
+pub record ToldFirst (hello exported compiled : ℕ) : Type 0 where
+  pub hello_is : hello ≡ 1
+  pub exported_is : exported ≡ 2
+  pub compiled_is : compiled ≡ 3
+
+-- the places that the second seat is told of its greeting and its import
+pub record ToldSecond (hello imported : ℕ) : Type 0 where
+  pub hello_is : hello ≡ 5
+  pub imported_is : imported ≡ 6
+
 -- a seat that has made no entry and has one worker
 pub record IsFreshSeat (view : View) : Type 0 where
   pub share : view.share ≡ 1
@@ -128,8 +139,8 @@ pub record IsFreshSeat (view : View) : Type 0 where
   pub dones : view.dones ≡ 0
   pub bare : view.places ≡ []
 
--- The seat's entries are these at these places, and the answer is the reply to the one at this place in the history that
--- it has seen. Its run is what it was.
+-- The seat's entries are these at these places, and the answer is the reply to the one at this place in the history
+-- that it has seen. Its run is what it was.
 pub record ToldAt (made : List Placed) (place : ℕ) (answer : Option Answer) (before after : Sitting) : Type 0 where
   pub made_are : Made after.knows.seen after.knows.places made
   pub answer_is : answer ≡ reply four_units 2 after.knows.seen place

@@ -1,7 +1,7 @@
 //! What the worked examples begin with: a registry over four units with two seats, and calls of a desk that expect a
 //! place.
 
-ghost use Rattle.std.specs.Prelude.{◌≡◌, ◌≤◌, ◌<◌, Option, Some, None, IfSome, IsTrue, IsFalse};
+ghost use Rattle.std.specs.Prelude.{◌≡◌, ◌≤◌, ◌<◌, None, IfSome, IsTrue, IsFalse};
 ghost use Rattle.unit_registry.specs.Projects.{unit_count};
 ghost use Rattle.histories.specs.Answered.{stored_unit};
 ghost use Rattle.histories.specs.Histories.{is_out_of_range};

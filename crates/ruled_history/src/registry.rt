@@ -1,7 +1,6 @@
 //! The registry, and its seats.
 
-ghost use Rattle.std.specs.Prelude.{◌≡◌, ◌+◌, ◌<◌, ◌≤◌, [], ◌∷◌, ℕ, IfOk, length};
-ghost use Rattle.registry_core.specs.Books.{BookView};
+ghost use Rattle.std.specs.Prelude.{◌≡◌, ◌+◌, ◌<◌, ◌≤◌, [], ◌∷◌, IfOk, length};
 ghost use Rattle.registry_core.specs.Ledgers.{open_in, done_in};
 ghost use Rattle.ruled_history.specs.declared.board.Stage.TheVariants.{Idle};
 ghost use Rattle.ruled_history.specs.declared.board.View.{View};
@@ -131,9 +130,10 @@ impl<S: Shelf + Drop> Registry<S> {
         }
     }
 
-    /// The book, once a seat has the run of all workers, and so is the only one. Its entries are all that the seat had
-    /// seen, and the seat's places are those of all of them; so many of its connections are open and so many workers are
-    /// done as the seat tells. It is the book that the registry was made of, after these entries.
+    /// The book, once a seat has the run of all workers, and so is the only one. What the seat knows is sound. The
+    /// book's entries are all that the seat had seen, and the seat's places are those of all of them; so many of its
+    /// connections are open and so many workers are done as the seat tells. It is the book that the registry was made
+    /// of, after these entries.
     pub fn close(self, seat: Seat) -> Book<S>
         requires seat { seat.registry ≡ self.name }
         requires share { seat.knows.share ≡ self.opening.ledger.workers }

@@ -1,5 +1,5 @@
-//! What tests show of a desk beside its clauses: which calls ring the bell, which items are fetched, and that a look
-//! sees what others entered.
+//! What tests show of a desk and its bell beside the clauses: which calls ring the bell, that a wait ends with a ring
+//! and not before, which items are fetched, and that a look sees what others entered.
 
 ghost use Rattle.std.specs.Prelude.{◌≡◌};
 ghost use Rattle.ruled_history.specs.Examples.{IsFresh, four_units};
@@ -10,6 +10,7 @@ use crate::shared::SharedDesk;
 use registry_core::{Answer, Desk, Leaving};
 use std::alloc::Global;
 use std::sync::Wait;
+use std::thread::{Threads, join, yield_now};
 use unit_registry::Act;
 
 /// Whether connection 0 was opened, greeted at place 1 and left, the greeting has its reply, and nothing is kept for
@@ -44,6 +45,32 @@ pub(crate) fn rings<R: Wait>(rt: &R, alloc: Global) -> Option<u64> {
     SharedDesk::new(rt, &registry, two, &bell).done();
     bell.wait_past(rt, 0);
     Some(bell.count(rt))
+}
+
+/// Waits past 0, and answers what the count is then.
+fn counts_past<R: Wait>(rt: &R, bell: &Bell) -> u64 {
+    bell.wait_past(rt, 0);
+    bell.count(rt)
+}
+
+/// Rings once, after so many yields that a thread which waits has begun.
+fn rings_late<R: Wait>(rt: &R, bell: &Bell) {
+    for _yielded in 0..20_000 {
+        yield_now();
+    }
+    bell.ring(rt);
+}
+
+/// The count that a thread tells which waits past 0, while this one rings once. Where no thread can be made, `join`
+/// runs its second closure first, and so the wait comes behind the ring.
+pub(crate) fn wakes<R: Threads + Wait + Sync>(rt: &R) -> u64 {
+    let bell = Bell::new();
+    let (count, _rung) = join(
+        rt,
+        || -> u64 { counts_past(rt, &bell) },
+        || -> () { rings_late(rt, &bell) },
+    );
+    count
 }
 
 /// Whether an item that is stored for unit 0 is fetched then, and none for unit 1.

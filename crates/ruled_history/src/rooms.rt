@@ -1,7 +1,7 @@
 //! What tests show of rooms: a desk with room is never refused, and a desk of a full history is, with its two numbers.
 
 ghost use Rattle.std.specs.Prelude.{◌≡◌, IfSome};
-ghost use Rattle.ruled_history.specs.Examples.{IsFresh, IsFreshSeat, IsRoomy, HasRoom, HaveRooms};
+ghost use Rattle.ruled_history.specs.Examples.{IsFresh, IsFreshSeat, IsRoomy, HasOpenIn, HaveRooms};
 
 use crate::bell::Bell;
 use crate::examples::{book_of, divided, greets};
@@ -13,10 +13,9 @@ use std::sync::Wait;
 use unit_registry::Act;
 
 /// Opens a connection in a room for three entries. It isn't refused.
-#[tactic(auto, using(crate::proofs::Worked::opened_in_room))]
 fn opens_in_room<D: Desk<Item = ()>>(desk: &mut D) -> u32
     requires { IsRoomy (D.tells desk.old) }
-    ensures { HasRoom result 1 (D.tells desk.new) }
+    ensures { HasOpenIn result 1 (D.tells desk.new) }
 {
     match desk.open() {
         Ok(conn) => conn,
@@ -27,8 +26,8 @@ fn opens_in_room<D: Desk<Item = ()>>(desk: &mut D) -> u32
 /// Asks where interfaces are kept, in a room for one entry. It isn't refused.
 #[tactic(auto, using(crate::proofs::Worked::asked_in_room))]
 fn asks_in_room<D: Desk<Item = ()>>(desk: &mut D, conn: u32)
-    requires { HasRoom conn 1 (D.tells desk.old) }
-    ensures { HasRoom conn 0 (D.tells desk.new) }
+    requires { HasOpenIn conn 1 (D.tells desk.old) }
+    ensures { HasOpenIn conn 0 (D.tells desk.new) }
 {
     match desk.ask(conn, Act::Repo, None) {
         Ok(_) => {}

@@ -1,6 +1,6 @@
 //! The desk of a thread that shares the history with others.
 
-ghost use Rattle.std.specs.Prelude.{◌≡◌, ◌≤◌, Option, IfOk, IfErr, IsOk, IsTrue, IsFalse, Contains};
+ghost use Rattle.std.specs.Prelude.{◌≡◌, ◌≤◌, IfOk, IfErr, IsOk, IsTrue, IsFalse, Contains};
 ghost use Rattle.histories.specs.Answered.{stored_unit};
 ghost use Rattle.histories.specs.Histories.{is_out_of_range};
 ghost use Rattle.histories.specs.Counts.{Asks, effect_of};
@@ -33,7 +33,7 @@ pub struct SharedDesk<'a, R: Wait, S: Shelf> {
 impl<'a, R: Wait, S: Shelf> Model for SharedDesk<'a, R, S> {
     ghost use Rattle.std.specs.Prelude.{◌≡◌, ◌<◌, []};
     ghost use Rattle.ruled_history.specs.declared.board.Stage.TheVariants.{Idle};
-    ghost use Rattle.ruled_history.specs.Seats.{Seated, Sitting};
+    ghost use Rattle.ruled_history.specs.Seats.{Seated};
 
     ghost Value = { Seated S };
 

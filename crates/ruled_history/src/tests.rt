@@ -1,6 +1,6 @@
 //! The worked examples, with memory enough.
 
-use crate::ringing::{fetches, hears, rings};
+use crate::ringing::{fetches, hears, rings, wakes};
 use crate::rooms::{fills_up, visits_twice};
 use crate::two_seats::two_seats;
 use crate::two_threads::{Told, two_threads};
@@ -102,6 +102,11 @@ fn kept_items_are_fetched(rt: HostRuntime) {
 #[test]
 fn each_entry_rings_the_bell(rt: HostRuntime) {
     assert!(rt; rings(&rt, rt.alloc()) == Some(4));
+}
+
+#[test]
+fn a_wait_ends_with_a_ring_and_not_before(rt: HostRuntime) {
+    assert!(rt; wakes(&rt) == 1);
 }
 
 #[test]

@@ -1,6 +1,6 @@
 //! One turn with the book: a ticket is drawn, the turn comes, the book is in hand, and the turn is passed.
 
-ghost use Rattle.std.specs.Prelude.{◌≡◌, ◌<◌, ◌∷◌, ◌++◌, [], ℕ, List, Some, None};
+ghost use Rattle.std.specs.Prelude.{◌≡◌, ◌<◌, ◌∷◌, ◌++◌, [], ℕ, List, None};
 ghost use Rattle.histories.specs.declared.entry.Entry.{Entry};
 ghost use Rattle.registry_core.specs.Books.{BookView};
 ghost use Rattle.registry_core.specs.Ledgers.{Passes, entry};

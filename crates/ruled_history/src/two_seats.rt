@@ -1,9 +1,9 @@
 //! A worked example: at one seat a unit is reported, and then it is imported at the other.
 
-ghost use Rattle.std.specs.Prelude.{◌≡◌, ℕ, ◌+◌, ◌<◌, ◌≤◌, [], ◌∷◌, Option, Some, None, IfSome, IsTrue, IsFalse};
+ghost use Rattle.std.specs.Prelude.{◌≡◌, ℕ, ◌<◌, [], ◌∷◌, Some, IfSome, IsFalse};
 ghost use Rattle.histories.specs.declared.answer.Answer.TheVariants.{Path, Done as Accepted};
 ghost use Rattle.ruled_history.specs.Views.{with_entries};
-ghost use Rattle.ruled_history.specs.Examples.{four_units, blank, placed_from, reporting, importing, both_seats, IsFresh, IsFreshSeat, HasOpen, HandsOver, Told, ToldAt, Divided, Finished};
+ghost use Rattle.ruled_history.specs.Examples.{four_units, blank, placed_from, reporting, importing, both_seats, IsFresh, IsFreshSeat, HasOpen, HandsOver, ToldFirst, ToldSecond, Told, ToldAt, Divided, Finished};
 
 use crate::bell::Bell;
 use crate::examples::{divided, enters_at, greets_at};
@@ -53,7 +53,7 @@ fn hands_over<D: Desk<Item = ()>>(desk: &mut D) -> Option<(u32, u32)>
 fn reports<D: Desk<Item = ()>>(desk: &mut D) -> Option<Reported>
     requires fresh { IsFresh (D.tells desk.old) }
     requires project { (D.tells desk.old).seen.project ≡ four_units }
-    ensures told { IfSome result (λ told. (told.hello ≡ 1) × (told.exported ≡ 2) × (told.compiled ≡ 3)) }
+    ensures told { IfSome result (λ told. ToldFirst told.hello told.exported told.compiled) }
     ensures made { IfSome result (λ told. Told (placed_from 0 reporting) 3 told.answer (D.tells desk.old) (D.tells desk.new)) }
 {
     let hello = greets_at(desk, 0, Some(0), 1)?;
@@ -71,7 +71,7 @@ fn reports<D: Desk<Item = ()>>(desk: &mut D) -> Option<Reported>
 fn imports<D: Desk<Item = ()>>(desk: &mut D) -> Option<Imported>
     requires fresh { IsFresh (D.tells desk.old) }
     requires project { (D.tells desk.old).seen.project ≡ four_units }
-    ensures told { IfSome result (λ told. (told.hello ≡ 5) × (told.imported ≡ 6)) }
+    ensures told { IfSome result (λ told. ToldSecond told.hello told.imported) }
     ensures made { IfSome result (λ told. (opened_at : ℕ) × (opened_at < 5) × Told (importing opened_at) 6 told.answer (D.tells desk.old) (D.tells desk.new)) }
 {
     let import = Act::Import {
@@ -100,7 +100,7 @@ fn report_seat<R: Wait>(
     requires loose { IsFalse registry.now.metered }
     requires project { registry.now.opening.ledger.project ≡ four_units }
     requires workers { registry.now.opening.ledger.workers ≡ 2 }
-    ensures told { IfSome result (λ done. (done.1.hello ≡ 1) × (done.1.exported ≡ 2) × (done.1.compiled ≡ 3)) }
+    ensures told { IfSome result (λ done. ToldFirst done.1.hello done.1.exported done.1.compiled) }
     ensures made { IfSome result (λ done. ToldAt (placed_from 0 reporting) 3 done.1.answer seat done.0) }
 {
     let mut desk = SharedDesk::new(rt, registry, seat, bell);
@@ -120,7 +120,7 @@ fn import_seat<R: Wait>(
     requires loose { IsFalse registry.now.metered }
     requires project { registry.now.opening.ledger.project ≡ four_units }
     requires workers { registry.now.opening.ledger.workers ≡ 2 }
-    ensures told { IfSome result (λ done. (done.1.hello ≡ 5) × (done.1.imported ≡ 6)) }
+    ensures told { IfSome result (λ done. ToldSecond done.1.hello done.1.imported) }
     ensures made { IfSome result (λ done. (opened_at : ℕ) × (opened_at < 5) × ToldAt (importing opened_at) 6 done.1.answer seat done.0) }
 {
     let mut desk = SharedDesk::new(rt, registry, seat, bell);
@@ -146,8 +146,8 @@ fn work_both<R: Wait>(
     two: Seat,
 ) -> Option<BothTold>
     requires { (limit : ℕ) × Divided limit registry.now one two }
-    ensures reported { IfSome result (λ both. (both.reported.hello ≡ 1) × (both.reported.exported ≡ 2) × (both.reported.compiled ≡ 3)) }
-    ensures imported { IfSome result (λ both. (both.imported.hello ≡ 5) × (both.imported.imported ≡ 6)) }
+    ensures reported { IfSome result (λ both. ToldFirst both.reported.hello both.reported.exported both.reported.compiled) }
+    ensures imported { IfSome result (λ both. ToldSecond both.imported.hello both.imported.imported) }
     ensures finished { IfSome result (λ both. Finished registry.now both.one.value both.two.value both.seat both.reported.answer both.imported.answer) }
 {
     let bell = Bell::new();
@@ -183,10 +183,10 @@ pub(crate) struct TwoSeats {
 pub(crate) fn two_seats<R: Wait>(rt: &R, alloc: Global) -> Option<TwoSeats>
     ensures loose { IfSome result (λ run. IsFalse run.registry.value.metered) }
     ensures shares { IfSome result (λ run. (run.one.value.knows.share ≡ 1) × (run.two.value.knows.share ≡ 1)) }
-    ensures first_told { IfSome result (λ run. (run.reported.hello ≡ 1) × (run.reported.exported ≡ 2) × (run.reported.compiled ≡ 3)) }
+    ensures first_told { IfSome result (λ run. ToldFirst run.reported.hello run.reported.exported run.reported.compiled) }
     ensures first_places { IfSome result (λ run. run.one.value.knows.places ≡ 0 ∷ 1 ∷ 2 ∷ 3 ∷ []) }
     ensures reported { IfSome result (λ run. run.reported.answer ≡ Some Accepted) }
-    ensures second_told { IfSome result (λ run. (run.imported.hello ≡ 5) × (run.imported.imported ≡ 6)) }
+    ensures second_told { IfSome result (λ run. ToldSecond run.imported.hello run.imported.imported) }
     ensures second_places { IfSome result (λ run. run.two.value.knows.places ≡ 4 ∷ 5 ∷ 6 ∷ []) }
     ensures imported { IfSome result (λ run. run.imported.answer ≡ Some (Path 0)) }
     ensures book { IfSome result (λ run. run.book.ledger ≡ with_entries (blank 40) both_seats) }

@@ -1,6 +1,6 @@
 //! A worked example: two threads serve at once, each at a seat of its own.
 
-ghost use Rattle.std.specs.Prelude.{◌≡◌, ℕ, ◌+◌, ◌<◌, ◌≤◌, ◌++◌, ◌∷◌, [], length, Option, Some, None, IfSome, IsTrue, IsFalse};
+ghost use Rattle.std.specs.Prelude.{◌≡◌, ℕ, ◌+◌, ◌++◌, ◌∷◌, [], IfSome, IsTrue, IsFalse};
 ghost use Rattle.std.specs.Thread.{IsSync};
 ghost use Rattle.unit_registry.specs.declared.act.Act.TheVariants.{Repo};
 ghost use Rattle.ruled_history.specs.Examples.{IsFresh, IsFreshSeat, HasOpen, Entered, Asked, Rounds, RoundsAt, Divided, BothServed, AreTwoRounds};
