@@ -86,7 +86,7 @@ module _ (project : ProjectView) (workers limit : ℕ) (history : List Entry) (c
   Ends WriteFault link = Stopped (taken link.read) link.written
   Ends TooLong link = Whole (taken link.read) Lost link.written × (most_octets < length link.read) × (has_long_block (take most_octets link.read) ≡ false)
   Ends BatchTooLong link = Whole (taken link.read) Lost link.written × (has_long_block (take most_octets link.read) ≡ true)
-  Ends (HistoryFull entries kept) link = Filled (taken link.read) link.written × (entries + kept ≡ limit)
+  Ends (HistoryFull entries kept) link = (filled : Filled (taken link.read) link.written) × (filled.place ≡ entries) × (entries + kept ≡ limit)
 
   -- The connection was served so. Where its octets pass a limit it ends by that, unless a fault of a write or a full
   -- history came before.

@@ -129,7 +129,8 @@ own_answers-push project entered block text more come next =
 
 -- ---- where a write stopped
 
--- Blocks behind others, of which none before the last one has answers longer than what was written, stop the list there.
+-- Blocks behind others, of which none before the last one has answers longer than what was written, stop the list
+-- there.
 pub stops_behind : (project : ProjectView) (written : List ℕ) (before next rest : List Block) → ((n : ℕ) → n < length next → is_longer (own_answers project (before ++ take n next)) written ≡ false) → is_longer (own_answers project (before ++ next)) written ≡ true
     → stopped_behind project written before (next ++ rest) ≡ before ++ next
 stops_behind project written before [] [] fronts longer = sym (append-nil before)

@@ -5,7 +5,7 @@ use Rattle.std.proofs.lemmas.Fmt.{decimal_injective}
 use Rattle.std.specs.Prelude.{true, not, nat_le, ◌&&◌, ◌==◌}
 use Rattle.std.specs.List.{list_all}
 use Rattle.header_units.specs.Octets.{is_path_octet}
-use Rattle.modmap.specs.Askings.{IsNumberWithin, is_folder}
+use Rattle.modmap.specs.Askings.{IsNumberWithin, is_folder, longest_folder}
 
 -- a number that the word spells lies between the bounds
 pub lies_between : (low high : ℕ) (word : List ℕ) (read number : ℕ) → high < 2 ^ 32 → word ≡ decimal read → read < 2 ^ 32 → IsNumberWithin low high word number → (low ≤ read) × (read ≤ high)
@@ -22,7 +22,7 @@ three_items f (p ∷ q ∷ r ∷ []) x y z three a b c = ap (λ v. f v ∷ f q �
 three_items f (p ∷ q ∷ r ∷ s ∷ xs) x y z three a b c = absurd (omega (arith, three))
 
 -- a folder that is asked for isn't too long
-pub folder_bound : (folder : List ℕ) → is_folder folder ≡ true → length folder ≤ 400
+pub folder_bound : (folder : List ℕ) → is_folder folder ≡ true → length folder ≤ longest_folder
 folder_bound folder is =
-    let front : (not (length folder == 0) && nat_le (length folder) 400) ≡ true = (and_parts (not (length folder == 0) && nat_le (length folder) 400) (list_all is_path_octet folder) is).0 in
-    leb-true (length folder) 400 (and_parts (not (length folder == 0)) (nat_le (length folder) 400) front).1
+    let front : (not (length folder == 0) && nat_le (length folder) longest_folder) ≡ true = (and_parts (not (length folder == 0) && nat_le (length folder) longest_folder) (list_all is_path_octet folder) is).0 in
+    leb-true (length folder) longest_folder (and_parts (not (length folder == 0)) (nat_le (length folder) 400) front).1

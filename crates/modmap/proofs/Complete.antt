@@ -26,7 +26,7 @@ use Rattle.modmap.specs.Commands.{Pipe, AsksFor}
 use Rattle.modmap.specs.Endings.{Ended, BadWords, OutOfMemory, CannotRead, FileTooLong, Refused, Served, Reported, Cut, WriteFailed, status_of}
 use Rattle.modmap.specs.ProjectFiles.{DeclaresProject, FindsProject, IsOfFile, IsReadAs, most_project_octets}
 use Rattle.modmap.specs.Running.{Outside, ReadsProject, Pipes, served, refused, no_memory, IsWhole, HasStood, LacksFile}
-use Rattle.modmap.specs.Serving.{ServesAlone}
+use Rattle.connection_core.specs.Serving.{ServesAlone}
 use Rattle.modmap.proofs.Answering.{acts_behind}
 use Rattle.modmap.proofs.Runnings.{conn_fault}
 use Rattle.modmap.proofs.Soloing.{gone_course}
@@ -36,6 +36,10 @@ use Rattle.modmap.proofs.Statuses.{differ, file_four}
 
 pub same_some : (a b : List ℕ) → Some a ≡ Some b → a ≡ b
 same_some a b e = cc
+
+-- one number is within a limit, and the same one isn't
+pub beyond : (most m n : ℕ) → m ≡ n → m ≤ most → most < n → ⊥
+beyond most m n e le lt = omega (arith, e, le, lt)
 
 pub same_project : (content : Option (List ℕ)) (project other : ProjectView) → DeclaresProject content project → DeclaresProject content other → project ≡ other
 same_project content project other p q =
@@ -124,9 +128,6 @@ not_refused failed name project (CannotRead named) content none memory known rea
 not_refused failed name project (FileTooLong named) content none memory known read =
     let texts : known.text ≡ read.text = same_some known.text read.text (sym known.held_is ∙ read.held_is) in
     beyond most_project_octets (length known.text) (length read.text) (ap length texts) known.within read.above
-  where
-    beyond : (most m n : ℕ) → m ≡ n → m ≤ most → most < n → ⊥
-    beyond most m n e le lt = omega (arith, e, le, lt)
 not_refused failed name project (Refused named line reason) content none memory known read =
     let texts : known.text ≡ read.text = same_some known.text read.text (sym known.held_is ∙ read.held_is) in
     never_both read.text project line read.cause (declared_reaches read.text project (subst (λ t. Declares t project) texts known.declares)) read.fault

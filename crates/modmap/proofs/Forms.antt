@@ -6,7 +6,7 @@ use Rattle.std.proofs.lemmas.Fmt.{decimal_injective}
 use Rattle.modmap.specs.declared.verb.Verb.{Verb}
 use Rattle.modmap.specs.declared.verb.Verb.TheVariants as verb
 use Rattle.modmap.specs.declared.verb.TheConstants.{VERBS}
-use Rattle.modmap.specs.Askings.{IsNumberWithin}
+use Rattle.modmap.specs.Askings.{IsNumberWithin, greatest_seed, most_units}
 use Rattle.modmap.specs.Commands.{Task, Check, Replay, ListUnits, Generate, AsksAs, AsksFor, AsksOfTrace, AsksPipe, AsksToGenerate, AsksToList, usual, counted, verb_text}
 
 -- one item
@@ -68,8 +68,8 @@ spells_one low high word again number other few same a b = decimal_injective num
 one_of_gen : (words : List (List ℕ)) (task other : Task) → AsksToGenerate words task → AsksToGenerate words other → task ≡ other
 one_of_gen words task other a b =
     let same = words_same a.folder b.folder a.units_word b.units_word a.seed_word b.seed_word (sym a.words_are ∙ b.words_are) in
-    let units : a.units ≡ b.units = spells_one 1 2000 a.units_word b.units_word a.units b.units (omega arith) same.1 a.units_are b.units_are in
-    let seeds : a.seed ≡ b.seed = spells_one 0 2147483647 a.seed_word b.seed_word a.seed b.seed (omega arith) same.2 a.seed_is b.seed_is in
+    let units : a.units ≡ b.units = spells_one 1 most_units a.units_word b.units_word a.units b.units (omega arith) same.1 a.units_are b.units_are in
+    let seeds : a.seed ≡ b.seed = spells_one 0 greatest_seed a.seed_word b.seed_word a.seed b.seed (omega arith) same.2 a.seed_is b.seed_is in
     a.task_is ∙ by a.folder b.folder a.units b.units a.seed b.seed same.0 units seeds ∙ sym b.task_is
   where
     words_same : (f g u v s t : List ℕ) → f ∷ u ∷ s ∷ [] ≡ g ∷ v ∷ t ∷ [] → (f ≡ g) × (u ≡ v) × (s ≡ t)

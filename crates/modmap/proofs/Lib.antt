@@ -27,3 +27,4 @@ pub mod Entering
 pub mod Played
 pub mod Replayed
 pub mod MeaningLemmas
+pub mod Fitting

@@ -1,6 +1,7 @@
 -- What a status tells of what was read, printed and served.
-use Rattle.std.proofs.Common.{◌≡◌, ◌≢◌, ◌⊎◌, inl, inr, ℕ, ◌+◌, ◌<◌, ◌≤◌, Bool, true, false, List, length, map, Option, Some, None, Ok, Err, IfSome, refl, sym, ap, subst, ◌∙◌, arith}
-use Rattle.std.specs.Prelude.{String, string_bytes, if◌then◌else◌}
+use Rattle.std.proofs.Common.{◌≡◌, ◌≢◌, ◌⊎◌, inl, inr, ℕ, ◌+◌, ◌<◌, ◌≤◌, Bool, true, false, List, ◌++◌, length, map, Option, Some, None, Ok, Err, IfSome, refl, sym, ap, subst, ◌∙◌, arith}
+use Rattle.std.proofs.lemmas.List.{append-nil}
+use Rattle.std.specs.Prelude.{String, string_bytes}
 use Rattle.std.specs.declared.alloc.Global.{Global}
 use Rattle.mm_outside.specs.Causes.{Rose}
 use Rattle.mm_outside.specs.Files.{Lookup}
@@ -16,15 +17,15 @@ use Rattle.trace_text.specs.declared.trace.Trace.{Trace}
 use Rattle.modmap.specs.Commands.{Task, Pipe, Check, Replay, ListUnits, Generate, AsksFor}
 use Rattle.modmap.specs.Endings.{Report, Ended, BadWords, OutOfMemory, CannotRead, FileTooLong, Refused, Served, Reported, Cut, WriteFailed, EndsIn, Output, Prints, Speaks, message_of, status_of}
 use Rattle.modmap.specs.ListRuns.{ListsSo, RefusesList, list_report}
-use Rattle.modmap.specs.Meanings.{FillsHistory, IsOverTrace, IsOverUnits, IsRefusedOf, IsReportOf, Judges, NamesRefused, ReadsBeyond, ReadsTooMuch, StopsInside}
+use Rattle.modmap.specs.Meanings.{FillsHistory, IsOverTrace, IsOverUnits, IsRefusedOf, IsReportOf, Judges, NamesRefused, ReadsBeyond, ReadsTooMuch, EndsInBlock}
 use Rattle.modmap.specs.ProjectFiles.{DeclaresProject, FindsProject, IsOfFile, IsReadAs}
 use Rattle.modmap.specs.Replays.{replay_report}
 use Rattle.modmap.specs.Reports.{Refuses, ReportsSo, check_report}
 use Rattle.modmap.specs.Running.{Outside, DoesTask, IsReport, Pipes, served, refused, no_memory}
-use Rattle.modmap.specs.Serving.{ServesAlone}
+use Rattle.connection_core.specs.Serving.{ServesAlone}
 use Rattle.modmap.specs.TraceFiles.{FindsTrace, IsTraceReadAs}
 use Rattle.modmap.proofs.Complete.{never_full}
-use Rattle.modmap.proofs.Statuses.{differ, in_report, of_file, report_never}
+use Rattle.modmap.proofs.Statuses.{differ, in_report, of_file, report_never, status_by}
 use Rattle.modmap.proofs.Writings.{gen_never}
 
 -- what was told before
@@ -48,9 +49,6 @@ six_speaks (Cut report) six b n x y told = absurd (omega (arith, six))
 six_speaks WriteFailed six b n x y told = told
 
 -- ---- a report that is printed whole
-
-abbrev status_by : Bool → ℕ
-status_by good = if good then 0 else 1
 
 same_good : (a b : Bool) → status_by a ≡ status_by b → a ≡ b
 same_good true true e = refl
@@ -86,9 +84,9 @@ over_trace failed reports project_name trace_name project trace (Some x) (Some y
 not_most : (a b : ℕ) → (a ≤ b → ⊥) → b < a
 not_most a b none = omega (arith, none)
 
-inside_at : (project : ProjectView) (entries : ℕ) (how : ConnEnd) → status_of (Served how) ≡ 7 → (x y : Octets) → ServesAlone project entries how x y → StopsInside x y
+inside_at : (project : ProjectView) (entries : ℕ) (how : ConnEnd) → status_of (Served how) ≡ 7 → (x y : Octets) → ServesAlone project entries how x y → EndsInBlock x y
 inside_at project entries Closed seven x y s = absurd (omega (arith, seven))
-inside_at project entries (Truncated lines) seven x y s = record { read = s.read; read_are = s.moves.read_are; over = s.served.ends.1.over; inside = omega (arith, s.served.ends.2, s.served.ends.3) }
+inside_at project entries (Truncated lines) seven x y s = record { read = s.read; read_are = s.moves.read_are; all_read = s.moves.to_come_was ∙ ap (λ xs. s.read ++ xs) s.served.ends.1.over ∙ append-nil s.read; over = s.served.ends.1.over; inside = omega (arith, s.served.ends.2, s.served.ends.3) }
 inside_at project entries ReadFault seven x y s = absurd (omega (arith, seven))
 inside_at project entries WriteFault seven x y s = absurd (omega (arith, seven))
 inside_at project entries TooLong seven x y s = absurd (omega (arith, seven))
@@ -176,21 +174,16 @@ module _ {L : Type 0} (outside : Outside L) where
 
   -- ---- statuses 7, 8 and 9
 
+  reports_small : (reports : ProjectView → Trace → Report) (project trace : List ℕ) (ended : Ended) → ReportsSo failed outside.files_before outside.files_now reports project trace ended → 6 < status_of ended → ⊥
+  reports_small reports project trace ended (ReportsSo.reported found heard first second ends) more = report_small _ ended ends more
+  reports_small reports project trace ended (ReportsSo.refused kind refuses) more = file_small ended kind more
+  reports_small reports project trace ended (ReportsSo.no_memory told is) more = memory_small ended is more
+
   -- only `pipe` ends with them
   only_pipe : (P : Type 0) (task : Task) (ended : Ended) → DoesTask outside task ended → 6 < status_of ended → ((name : List ℕ) (entries : ℕ) → task ≡ Pipe name entries → Pipes outside name entries ended → P) → P
   only_pipe P (Pipe project entries) ended h more use_it = use_it project entries refl h
-  only_pipe P (Check project trace) ended h more use_it = absurd (reports_small check_report project trace h.reports_so)
-    where
-      reports_small : (reports : ProjectView → Trace → Report) (project trace : List ℕ) → ReportsSo failed outside.files_before outside.files_now reports project trace ended → ⊥
-      reports_small reports project trace (ReportsSo.reported found heard first second ends) = report_small _ ended ends more
-      reports_small reports project trace (ReportsSo.refused kind refuses) = file_small ended kind more
-      reports_small reports project trace (ReportsSo.no_memory told is) = memory_small ended is more
-  only_pipe P (Replay project trace) ended h more use_it = absurd (reports_small replay_report project trace h.reports_so)
-    where
-      reports_small : (reports : ProjectView → Trace → Report) (project trace : List ℕ) → ReportsSo failed outside.files_before outside.files_now reports project trace ended → ⊥
-      reports_small reports project trace (ReportsSo.reported found heard first second ends) = report_small _ ended ends more
-      reports_small reports project trace (ReportsSo.refused kind refuses) = file_small ended kind more
-      reports_small reports project trace (ReportsSo.no_memory told is) = memory_small ended is more
+  only_pipe P (Check project trace) ended h more use_it = absurd (reports_small check_report project trace ended h.reports_so more)
+  only_pipe P (Replay project trace) ended h more use_it = absurd (reports_small replay_report project trace ended h.reports_so more)
   only_pipe P (ListUnits project) ended h more use_it = absurd (lists_small h.lists_so)
     where
       lists_small : ListsSo failed outside.files_before outside.files_now project ended → ⊥
@@ -209,9 +202,9 @@ module _ {L : Type 0} (outside : Outside L) where
   abbrev served_so : (Octets → Octets → Type 0) → Type 0
   served_so R = Told R (outside.octets outside.link_before) (outside.octets outside.link_now)
 
-  pub task_seven : (task : Task) (ended : Ended) → DoesTask outside task ended → status_of ended ≡ 7 → served_so StopsInside
-  task_seven task ended h seven = only_pipe (served_so StopsInside) task ended h (omega (arith, seven)) (λ name entries is pipes.
-      only_served (served_so StopsInside) name entries ended pipes (omega (arith, seven)) (λ how project status reads serves. Told-map {R = ServesAlone project entries how} {S = StopsInside} (λ x y s. inside_at project entries how (sym status ∙ seven) x y s) serves))
+  pub task_seven : (task : Task) (ended : Ended) → DoesTask outside task ended → status_of ended ≡ 7 → served_so EndsInBlock
+  task_seven task ended h seven = only_pipe (served_so EndsInBlock) task ended h (omega (arith, seven)) (λ name entries is pipes.
+      only_served (served_so EndsInBlock) name entries ended pipes (omega (arith, seven)) (λ how project status reads serves. Told-map {R = ServesAlone project entries how} {S = EndsInBlock} (λ x y s. inside_at project entries how (sym status ∙ seven) x y s) serves))
 
   pub task_eight : (task : Task) (ended : Ended) → DoesTask outside task ended → status_of ended ≡ 8 → served_so ReadsBeyond
   task_eight task ended h eight = only_pipe (served_so ReadsBeyond) task ended h (omega (arith, eight)) (λ name entries is pipes.

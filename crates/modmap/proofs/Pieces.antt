@@ -1,5 +1,5 @@
 -- A piece is taken block by block, by a session that has its desk alone.
-use Rattle.std.proofs.Common.{◌≡◌, ◌≢◌, inl, inr, ℕ, suc, ◌+◌, ◌<◌, ◌≤◌, ◌==◌, Bool, true, false, cond, List, [], ◌∷◌, ◌++◌, length, take, drop, Contains, Option, Some, None, refl, sym, ap, ap₂, subst, ◌∙◌, append_assoc, arith, eqb-true}
+use Rattle.std.proofs.Common.{◌≡◌, ◌≢◌, inl, inr, ℕ, suc, ◌+◌, ◌<◌, ◌≤◌, ◌==◌, Bool, true, false, cond, List, [], ◌∷◌, ◌++◌, length, take, drop, Contains, Some, None, refl, sym, ap, ap₂, subst, ◌∙◌, append_assoc, arith, eqb-true}
 use Rattle.std.proofs.lemmas.List.{append-nil, length-append, length-map, nil_from_length, take-append-drop, take-append-le, take_at}
 use Rattle.std.proofs.Math.Seq.{take-append-add}
 use Rattle.std.proofs.lemmas.List.FromFn.{length-range_with_len}
@@ -304,7 +304,7 @@ pub closes_full : {Held : Type 0} (project : ProjectView) (limit : ℕ) (desk : 
     → taken octets.read ≡ earlier ++ block ∷ others → block_acts project block ≡ part ++ missing → missing ≢ [] → Course project earlier octets.written → IsFull desk.seen 0 (record { entries = entries; reserved = kept }) → Closes project limit (HistoryFull entries kept) desk.seen.entries octets
 closes_full project limit desk earlier block others part missing entries kept octets is are all parts some course full =
     closes_as project limit (HistoryFull entries kept) desk.seen.entries asked octets are (solo_filled project limit octets.read octets.written earlier block others part missing all parts limit_is)
-    (record { ends = (filled, omega (arith, place_full, counts)); limits = λ passes. inr (inr refl) })
+    (record { ends = (filled, sym is_full.length_is, omega (arith, place_full, counts)); limits = λ passes. inr (inr refl) })
   where
     asked : List Acts
     asked = acts project earlier ++ part

@@ -24,7 +24,7 @@ use Rattle.registry_tables.specs.Imported.{may_end_unit}
 use Rattle.registry_tables.proofs.Openings.{reverse_filter}
 use Rattle.registry_core.specs.Ledgers.{Appends, IsLedger, LedgerView, Passes, done_in, noted_in, open_in, reply_at, with_entry}
 use Rattle.modmap.specs.Replays.{entry_text, found_at, found_text, placed_text}
-use Rattle.modmap.specs.Plays.{IsOf, IsWaitingList, awaited_by, found_in, found_texts, may_end_with, option_text, said_by, wait_at, waits_in}
+use Rattle.modmap.specs.Plays.{IsOf, IsWaitingList, awaited_by, found_in, found_texts, may_end_with, option_text, said_by, wait_at, waits_in, with_wait}
 use Rattle.modmap.proofs.Playing.{awaited_is, candidates_reversed, ends_alike}
 use Rattle.modmap.proofs.Stalling.{goes_on}
 use Rattle.modmap.proofs.Replaying.{all_wait, coming_is, found_after, pending_then, waits_then}
@@ -107,7 +107,7 @@ module _ (ledger : LedgerView) (entry : Entry) (legal : IsLedger ledger) (passes
 
   -- the imports that waited, with one that is told to wait with the entry
   abbrev listed : List Wait
-  listed = waited ++ option_to_list (option_map (wait_at place entry.conn) (awaited_by own entry.act))
+  listed = with_wait place entry own waited
 
   listed_are : listed ≡ reverse (candidates project noted entry)
   listed_are =

@@ -7,7 +7,7 @@ use Rattle.connection_core.specs.declared.conn_end.ConnEnd.{ConnEnd}
 use Rattle.connection_core.specs.declared.conn_end.ConnEnd.TheVariants.{Closed, Truncated, ReadFault, WriteFault, TooLong, BatchTooLong, HistoryFull}
 use Rattle.modmap.specs.Endings.{Ended, Served, Output, status_of}
 use Rattle.mm_outside.proofs.ToldLemmas.{Told-map}
-use Rattle.modmap.specs.Running.{Outside, HasNoFault, TriesOnce, Pipes, served, refused, no_memory}
+use Rattle.modmap.specs.Running.{Outside, HasNoFault, HidesNoFault, Pipes, served, refused, no_memory}
 use Rattle.modmap.proofs.Statuses.{differ, file_never, reads_kept}
 
 -- an end of a connection whose status lies between 1 and 7 is a fault of a read or of a write
@@ -77,8 +77,8 @@ module _ {L : Type 0} (outside : Outside L) (name : List ℕ) (entries : ℕ) wh
   piped_link_writes ended (no_memory aside is) same five = same aside.link
 
   -- `pipe` tries nothing again that failed
-  pub piped_once : (ended : Ended) (status : ℕ) → status ≡ status_of ended → Pipes outside name entries ended → outside.file_writes_now ≡ outside.file_writes_before → (outside.link_now ≡ outside.link_before → outside.link_reads_now ≡ outside.link_reads_before) → (outside.link_now ≡ outside.link_before → outside.link_writes_now ≡ outside.link_writes_before) → TriesOnce outside status
-  piped_once ended status is pipes kept same_reads same_writes = record {
+  pub piped_unhidden : (ended : Ended) (status : ℕ) → status ≡ status_of ended → Pipes outside name entries ended → outside.file_writes_now ≡ outside.file_writes_before → (outside.link_now ≡ outside.link_before → outside.link_reads_now ≡ outside.link_reads_before) → (outside.link_now ≡ outside.link_before → outside.link_writes_now ≡ outside.link_writes_before) → HidesNoFault outside status
+  piped_unhidden ended status is pipes kept same_reads same_writes = record {
     file_reads = λ three four. piped_file_reads ended pipes (λ e. three (is ∙ e)) (λ e. four (is ∙ e));
     file_writes = λ five. kept;
     link_reads = λ four. piped_link_reads ended pipes same_reads (λ e. four (is ∙ e));
@@ -92,11 +92,11 @@ module _ {L : Type 0} (outside : Outside L) (name : List ℕ) (entries : ℕ) wh
   pipe_stays ended (no_memory aside is) = aside.files
 
 -- what is done has no fault behind it
-pub done_well : {L : Type 0} (outside : Outside L) (output : Output) (status : ℕ) → TriesOnce outside status → output.faults_now ≡ output.faults_before → (status ≡ 0) ⊎ (status ≡ 1) → HasNoFault outside output
-done_well outside output status once sink done = by done
+pub done_well : {L : Type 0} (outside : Outside L) (output : Output) (status : ℕ) → HidesNoFault outside status → output.faults_now ≡ output.faults_before → (status ≡ 0) ⊎ (status ≡ 1) → HasNoFault outside output
+done_well outside output status shown sink done = by done
   where
     well : status ≢ 3 → status ≢ 4 → status ≢ 5 → HasNoFault outside output
-    well three four five = record { file_reads = once.file_reads three four; file_writes = once.file_writes five; link_reads = once.link_reads four; link_writes = once.link_writes five; sink_writes = sink }
+    well three four five = record { file_reads = shown.file_reads three four; file_writes = shown.file_writes five; link_reads = shown.link_reads four; link_writes = shown.link_writes five; sink_writes = sink }
 
     by : (status ≡ 0) ⊎ (status ≡ 1) → HasNoFault outside output
     by (inl e) = well (λ f. omega (arith, e, f)) (λ f. omega (arith, e, f)) (λ f. omega (arith, e, f))

@@ -1,4 +1,5 @@
--- A connection that is served alone: what it has entered and was answered, block by block, and its history when it has gone.
+-- A connection that is served alone: what it has entered and was answered, block by block, and its history when it has
+-- gone.
 use Rattle.std.proofs.Common.{◌≡◌, ℕ, zero, suc, ◌+◌, ◌-◌, ◌<◌, ◌≤◌, ◌⊎◌, inl, inr, ◌==◌, ◌&&◌, true, false, cond, List, [], ◌∷◌, ◌++◌, length, take, Option, Some, sym, ap, ◌∙◌, append_assoc, arith}
 use Rattle.std.specs.Prelude.{nat_le}
 use Rattle.std.proofs.lemmas.Bool.{le-leb}

@@ -1,13 +1,14 @@
--- Behind an act other than a Pause or a Done nothing has stalled, where no connection goes with it: the connection of the entry is open and hasn't paused.
-use Rattle.std.proofs.Common.{◌≡◌, ℕ, ◌<◌, Bool, true, false, ◌||◌, ◌&&◌, ◌==◌, not, inl, inr, List, ◌∷◌, is_none, Some, refl, sym, ap, subst, ◌∙◌, arith, eq-eqb, true≢false, None, ◌+◌, []}
-use Rattle.std.proofs.lemmas.Bool.{and_right, or_from, or_parts, cond-true, false_from_ne_true}
+-- Behind an act other than a Pause or a Done nothing has stalled, where no connection goes with it: the connection of
+-- the entry is open and hasn't paused.
+use Rattle.std.proofs.Common.{◌≡◌, ℕ, Bool, true, false, ◌&&◌, ◌==◌, not, inl, inr, List, ◌∷◌, is_none, Some, refl, sym, ap, ◌∙◌, arith, eq-eqb, true≢false, None, ◌+◌, []}
+use Rattle.std.proofs.lemmas.Bool.{and_right, or_from, cond-true, false_from_ne_true}
 use Rattle.std.specs.Prelude.{if◌then◌else◌}
 use Rattle.std.specs.List.{cons_option, list_all}
 use Rattle.unit_registry.specs.Acts.{goes, is_done, is_open_act, is_pause}
 use Rattle.unit_registry.specs.Projects.{ProjectView}
 use Rattle.histories.specs.declared.answered.Answered.{Answered}
 use Rattle.histories.specs.declared.entry.Entry.{Entry}
-use Rattle.histories.specs.Answered.{done_count, has_gone, is_open, is_paused, open_connections, open_count, opened, opened_count}
+use Rattle.histories.specs.Answered.{done_count, has_gone, is_open, open_connections, open_count, opened}
 use Rattle.histories.specs.Noted.{Noted, answered_of}
 use Rattle.histories.specs.Histories.{fault, is_stalled, is_stuck, is_waiting, note}
 use Rattle.histories.proofs.Acyclic.{answered_entry}

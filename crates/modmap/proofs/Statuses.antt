@@ -1,10 +1,10 @@
 -- What the status of an ending tells of it.
-use Rattle.std.proofs.Common.{◌≡◌, ◌≢◌, ◌⊎◌, inl, inr, ℕ, Bool, true, false, List, Result, Ok, Err, refl, sym, ap, subst, ◌∙◌, arith}
+use Rattle.std.proofs.Common.{◌≡◌, ◌≢◌, ◌⊎◌, inl, inr, ℕ, Bool, true, false, List, refl, sym, ap, subst, ◌∙◌, arith}
 use Rattle.std.specs.Prelude.{if◌then◌else◌}
 use Rattle.mm_outside.specs.Causes.{Rose}
 use Rattle.connection_core.specs.declared.conn_end.ConnEnd.TheVariants.{Closed, Truncated, ReadFault, WriteFault, TooLong, BatchTooLong, HistoryFull}
 use Rattle.modmap.specs.Endings.{Report, Ended, BadWords, OutOfMemory, CannotRead, FileTooLong, Refused, Served, Reported, Cut, WriteFailed, EndsIn, HasSinkCause, Output, Ends, Tells, status_of}
-use Rattle.modmap.specs.ProjectFiles.{IsOfFile, KeepsReads, none_failed, at_file, for_memory, HasRead}
+use Rattle.modmap.specs.ProjectFiles.{IsOfFile, KeepsReads, none_failed, at_file, for_memory}
 
 -- one number isn't two
 pub differ : (n a b : ℕ) → (a ≡ b → ⊥) → n ≡ a → n ≡ b → ⊥
@@ -13,7 +13,7 @@ differ n a b apart e d = apart (sym e ∙ d)
 -- ---- a report
 
 -- the status of a report
-abbrev status_by : Bool → ℕ
+abbrev pub status_by : Bool → ℕ
 status_by good = if good then 0 else 1
 
 report_status : (good : Bool) → (status_by good ≡ 0) ⊎ (status_by good ≡ 1)
@@ -92,11 +92,6 @@ file_four (Cut report) kind four = absurd kind
 file_four WriteFailed kind four = absurd kind
 
 -- ---- reads that failed
-
--- what was read without a fault, or an ending behind it
-pub keeps_all : {A : Type 0} (result : Result A Ended) (b n : ℕ) → n ≡ b → HasRead result b n
-keeps_all (Ok read) b n kept = kept
-keeps_all (Err ended) b n kept = none_failed kept
 
 -- no read failed before
 pub keeps_since : (ended : Ended) (b mid n : ℕ) → mid ≡ b → KeepsReads ended mid n → KeepsReads ended b n

@@ -1,5 +1,5 @@
 -- What holds of a run, by the task that its words ask for.
-use Rattle.std.proofs.Common.{◌≡◌, ◌≢◌, ◌⊎◌, inl, inr, ℕ, ◌<◌, ◌≤◌, List, length, map, Option, Some, None, Err, IfSome, refl, sym, ap, subst, ◌∙◌, arith}
+use Rattle.std.proofs.Common.{◌≡◌, ◌≢◌, ◌⊎◌, inl, inr, ℕ, ◌≤◌, List, length, map, Option, Some, None, Err, IfSome, refl, sym, ap, subst, ◌∙◌, arith}
 use Rattle.std.proofs.lemmas.Option.{none-some}
 use Rattle.std.specs.Prelude.{IsSomeAnd, String, string_bytes}
 use Rattle.std.specs.declared.alloc.Global.{Global}
@@ -13,14 +13,15 @@ use Rattle.trace_text.specs.Faults.{IsTraceText}
 use Rattle.trace_text.proofs.Outcomes.{never_both}
 use Rattle.modmap.specs.declared.verb.Verb.{Verb}
 use Rattle.modmap.specs.declared.verb.Verb.TheVariants as verb
+use Rattle.modmap.specs.Askings.{fewest_entries, longest_folder, most_units}
 use Rattle.modmap.specs.Commands.{Task, Pipe, Check, Replay, ListUnits, Generate, AsksAs, AsksFor, AsksNothing, usual, counted}
 use Rattle.modmap.specs.Endings.{Report, Ended, BadWords, OutOfMemory, CannotRead, FileTooLong, Refused, Served, Reported, Cut, WriteFailed, HasSinkCause, Output, Ends, status_of}
 use Rattle.modmap.specs.ProjectFiles.{DeclaresProject, FindsProject, IsOfFile}
 use Rattle.modmap.specs.Reports.{Refuses, ReportsSo, check_report}
 use Rattle.modmap.specs.Replays.{replay_report}
-use Rattle.modmap.specs.Running.{Outside, AreBothThere, AreUnitsThere, AsksReport, AsksToWrite, DoesTask, IsAllThere, IsReadBy, IsReport, IsSparedBy, KeepsOthers, LacksFile, NothingHinders, to_serve, to_report, to_list, to_write}
+use Rattle.modmap.specs.Running.{Outside, AreBothThere, AreUnitsThere, AsksOverTrace, AsksToWrite, DoesTask, IsAllThere, IsReadBy, IsReport, IsSparedBy, KeepsOthers, LacksFile, NothingHinders, to_serve, to_report, to_list, to_write}
 use Rattle.modmap.specs.TraceFiles.{FindsTrace, HoldsTrace, IsTraceReadAs}
-use Rattle.modmap.proofs.Complete.{all_served, fault_of_read, same_some, told_refused}
+use Rattle.modmap.proofs.Complete.{all_served, beyond, fault_of_read, same_some, told_refused}
 use Rattle.modmap.proofs.Forms.{one_task}
 use Rattle.modmap.proofs.AskedLemmas.{folder_bound}
 use Rattle.modmap.proofs.Reporting.{report_stays}
@@ -32,31 +33,35 @@ use Rattle.modmap.proofs.Runnings.{never_one, never_two, pipe_stays, untouched, 
 -- ---- one task
 
 -- words that ask for nothing ask for no report
-pub asks_none : (words : List (String Global)) (project trace : List ℕ) → ((task : Task) → AsksFor (map string_bytes words) task → ⊥) → AsksReport words project trace → ⊥
+pub asks_none : (words : List (String Global)) (project trace : List ℕ) → ((task : Task) → AsksFor (map string_bytes words) task → ⊥) → AsksOverTrace words project trace → ⊥
 asks_none words project trace none (inl check) = none (Check project trace) check
 asks_none words project trace none (inr replay) = none (Replay project trace) replay
 
--- a project that is to be generated lies within its bounds
+-- the entries of a history, and a project that is to be generated, lie within their bounds
 abbrev IsBounded : Task → Type 0
-IsBounded (Pipe project entries) = Unit {0}
+IsBounded (Pipe project entries) = fewest_entries ≤ entries
 IsBounded (Check project trace) = Unit {0}
 IsBounded (Replay project trace) = Unit {0}
 IsBounded (ListUnits project) = Unit {0}
-IsBounded (Generate folder units seed) = (length folder ≤ 400) × (units ≤ 2000)
+IsBounded (Generate folder units seed) = (length folder ≤ longest_folder) × (units ≤ most_units)
 
 bounded : (words : List (List ℕ)) (task : Task) → AsksFor words task → IsBounded task
 bounded words task asks = by asks.first asks.asked
   where
     by : (first : Verb) → AsksAs first asks.rest task → IsBounded task
-    by verb.Pipe (usual project are is) = subst IsBounded (sym is) tt
-    by verb.Pipe (counted project word entries are spelled is) = subst IsBounded (sym is) tt
+    by verb.Pipe (usual project are is) = subst IsBounded (sym is) (omega arith)
+    by verb.Pipe (counted project word entries are spelled is) = subst IsBounded (sym is) spelled.at_least
     by verb.Check asked = subst IsBounded (sym asked.task_is) tt
     by verb.Replay asked = subst IsBounded (sym asked.task_is) tt
     by verb.List asked = subst IsBounded (sym asked.task_is) tt
     by verb.Gen asked = subst IsBounded (sym asked.task_is) (folder_bound asked.folder asked.folder_is, asked.units_are.at_most)
 
+-- the history that is asked for has room for the three entries that any connection alone has
+pub pipe_bounds : (words : List (List ℕ)) (name : List ℕ) (entries : ℕ) → AsksFor words (Pipe name entries) → fewest_entries ≤ entries
+pipe_bounds words name entries asks = bounded words (Pipe name entries) asks
+
 -- the folder and the number of units that are asked for lie within their bounds
-pub gen_bounds : (words : List (List ℕ)) (folder : List ℕ) (units seed : ℕ) → AsksFor words (Generate folder units seed) → (length folder ≤ 400) × (units ≤ 2000)
+pub gen_bounds : (words : List (List ℕ)) (folder : List ℕ) (units seed : ℕ) → AsksFor words (Generate folder units seed) → (length folder ≤ longest_folder) × (units ≤ most_units)
 gen_bounds words folder units seed asks = bounded words (Generate folder units seed) asks
 
 -- ---- a trace that is there
@@ -72,9 +77,6 @@ trace_there failed name trace (CannotRead named) held none memory known read = b
 trace_there failed name trace (FileTooLong named) held none memory known read =
     let texts : known.text ≡ read.text = same_some known.text read.text (sym known.held_is ∙ read.held_is) in
     beyond 67108864 (length known.text) (length read.text) (ap length texts) known.within read.above
-  where
-    beyond : (most m n : ℕ) → m ≡ n → m ≤ most → most < n → ⊥
-    beyond most m n e le lt = omega (arith, e, le, lt)
 trace_there failed name trace (Refused named line reason) held none memory known read =
     let texts : known.text ≡ read.text = same_some known.text read.text (sym known.held_is ∙ read.held_is) in
     never_both read.text trace.workers trace.limit trace.entries line read.cause (subst (λ t. IsTraceText t trace.workers trace.limit trace.entries) texts known.is_trace) read.fault
@@ -257,7 +259,7 @@ module _ {L : Type 0} (outside : Outside L) where
         → (files_failed → ⊥) → (Rose b n → ⊥) → (status_of ended ≡ 0) ⊎ ((status_of ended ≡ 1) ⊎ (status_of ended ≡ 3))
     task_reports task ended b n asks h cause there no_file no_fault = by there.asks
       where
-        by : AsksReport words there.project_name there.trace_name → (status_of ended ≡ 0) ⊎ ((status_of ended ≡ 1) ⊎ (status_of ended ≡ 3))
+        by : AsksOverTrace words there.project_name there.trace_name → (status_of ended ≡ 0) ⊎ ((status_of ended ≡ 1) ⊎ (status_of ended ≡ 3))
         by (inl check) =
             let so : DoesTask outside (Check there.project_name there.trace_name) ended = subst (λ some. DoesTask outside some ended) (one_task (map string_bytes words) task (Check there.project_name there.trace_name) asks check) h in
             printed check_report ended b n there cause no_file no_fault so.reports_so

@@ -24,7 +24,7 @@ use Rattle.connection_core.specs.declared.conn_end.ConnEnd.TheVariants.{ReadFaul
 use Rattle.connection_core.specs.Ends.{HasCauses, last_of}
 use Rattle.connection_core.specs.Sessions.{SessionState, StandsAfter, IsIdle, ended}
 use Rattle.connection_core.specs.Taking.{end_holding}
-use Rattle.modmap.specs.Serving.{Moves}
+use Rattle.connection_core.specs.Serving.{Moves}
 use Rattle.modmap.specs.Ladder.{so_far, Course, IsReady, TellsAll, IsAlone, Stands, Closes, Goes, Serving, Served, Turns, Left, last_done}
 use Rattle.modmap.proofs.Going.{course_moved}
 use Rattle.modmap.proofs.Pieces.{closes_closed, closes_truncated, closes_read_fault}
@@ -170,9 +170,6 @@ ready_anew s project h going idle none zero_is = record { reading = by s.reader.
 
 -- ---- faults
 
-no_end : (how : ConnEnd) → None ≡ Some how → ⊥
-no_end how e = cc
-
 module _ (how : ConnEnd) (reads_before reads_mid reads_now writes_before writes_mid writes_now : ℕ) where
   -- what one turn tells of its faults is so of all of them, where those before it had none
   pub causes_since : reads_mid ≡ reads_before → writes_mid ≡ writes_before → (Some how ≡ Some ReadFault → Rose reads_mid reads_now) → (Some how ≡ Some WriteFault → Rose writes_mid writes_now)
@@ -186,7 +183,3 @@ module _ (how : ConnEnd) (reads_before reads_mid reads_now writes_before writes_
     where
       same : (a b : ConnEnd) → Some a ≡ Some b → a ≡ b
       same a b e = cc
-
--- a turn that comes to no end has no fault
-pub still_kept : (how : ConnEnd) (result : Option ConnEnd) (before now : ℕ) → result ≡ None → (result ≢ Some how → now ≡ before) → now ≡ before
-still_kept how result before now none kept = kept (λ e. no_end how (sym none ∙ e))

@@ -1,5 +1,5 @@
 -- What holds of a report on the units of a project, by its ending.
-use Rattle.std.proofs.Common.{◌≡◌, ◌≢◌, ◌⊎◌, inl, inr, ℕ, ◌≤◌, ◌<◌, Bool, true, false, List, length, map, Option, Some, None, Err, refl, sym, ap, subst, ◌∙◌, arith}
+use Rattle.std.proofs.Common.{◌≡◌, ◌≢◌, ◌⊎◌, inl, inr, ℕ, ◌<◌, Bool, true, false, List, length, map, Option, Some, None, Err, refl, sym, ap, subst, ◌∙◌, arith}
 use Rattle.std.proofs.lemmas.Option.{none-some}
 use Rattle.std.specs.Prelude.{IsSomeAnd, String, string_bytes}
 use Rattle.std.specs.declared.alloc.Global.{Global}
@@ -16,7 +16,7 @@ use Rattle.modmap.specs.Endings.{Ended, BadWords, OutOfMemory, CannotRead, FileT
 use Rattle.modmap.specs.ProjectFiles.{DeclaresProject, IsReadAs}
 use Rattle.modmap.specs.ListRuns.{HoldsWithin, HoldUnits, HoldsAll, IsNoCmiOf, Stay, StopsAt, ListsSo, reported, refused, no_memory, unreadable, too_long, RefusesList, RefusesUnit, as_file, as_cmi, not_a_cmi, other_unit, file_by, most_by, unit_file, most_cmi_octets}
 use Rattle.modmap.specs.Running.{LacksFile}
-use Rattle.modmap.proofs.Complete.{not_refused, same_project, same_some}
+use Rattle.modmap.proofs.Complete.{beyond, not_refused, same_project, same_some}
 use Rattle.modmap.proofs.Statuses.{differ, file_never, report_cut, report_never, report_whole}
 
 module _ (failed : Type 0) (before now : Option Lookup) (name : List ℕ) where
@@ -84,9 +84,6 @@ module _ (failed : Type 0) (before now : Option Lookup) (name : List ℕ) where
       by (Some content) (Some new) told = files content told.so.so
 
 -- ---- files that are there
-
-beyond : (most m n : ℕ) → m ≡ n → m ≤ most → most < n → ⊥
-beyond most m n e le lt = omega (arith, e, le, lt)
 
 module _ (failed : Type 0) (none : failed → ⊥) where
   project_taken : (name : List ℕ) (project : ProjectView) (ended : Ended) (held : Option (List ℕ)) → DeclaresProject held project → IsReadAs failed name (Err ended) held → ended ≡ OutOfMemory

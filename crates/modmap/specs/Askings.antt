@@ -1,4 +1,4 @@
--- The words behind `gen` and behind `list`.
+-- The words behind `gen` and behind `list`, and the numbers that words may say.
 use Rattle.std.specs.Prelude.{◌≡◌, ℕ, ◌≤◌, ◌==◌, Bool, not, ◌&&◌, nat_le, List, length, decimal}
 use Rattle.std.specs.List.{list_all}
 use Rattle.header_units.specs.Octets.{is_path_octet}
@@ -8,6 +8,24 @@ pub record IsNumberWithin (low high : ℕ) (word : List ℕ) (number : ℕ) : Ty
   pub decimal_is : word ≡ decimal number
   pub at_least : low ≤ number
   pub at_most : number ≤ high
+
+-- the entries of a history that `pipe` keeps: where its words don't say, and the fewest and the most that they may say
+abbrev pub usual_entries : ℕ
+usual_entries = 65536
+
+abbrev pub fewest_entries : ℕ
+fewest_entries = 3
+
+abbrev pub most_entries : ℕ
+most_entries = 1048576
+
+-- the most units that can be generated
+abbrev pub most_units : ℕ
+most_units = 2000
+
+-- the greatest seed
+abbrev pub greatest_seed : ℕ
+greatest_seed = 2147483647
 
 -- the most octets of a folder
 abbrev pub longest_folder : ℕ

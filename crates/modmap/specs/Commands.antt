@@ -1,15 +1,15 @@
 -- The commands, as words of the command line.
 use Rattle.std.specs.Prelude.{◌≡◌, ℕ, true, List, [], ◌∷◌, map, String, string_bytes, codes}
 use Rattle.std.specs.declared.alloc.Global.{Global}
-use Rattle.modmap.specs.Askings.{IsNumberWithin, is_folder}
+use Rattle.modmap.specs.Askings.{IsNumberWithin, fewest_entries, greatest_seed, is_folder, most_entries, most_units, usual_entries}
 use Rattle.modmap.specs.declared.command.Command.{Command}
 use Rattle.modmap.specs.declared.command.Command.TheVariants as command
 use Rattle.modmap.specs.declared.verb.Verb.{Verb}
 use Rattle.modmap.specs.declared.verb.Verb.TheVariants as verb
 
--- what is to be done: serve one connection over this project file, in a history of at most so many entries; check a trace
--- against a project, or replay one; compile the units of a project one by one and report on them; or write a generated
--- project of so many units into a folder
+-- what is to be done: serve one connection over this project file, in a history of at most so many entries; check a
+-- trace against a project, or replay one; compile the units of a project one by one and report on them; or write a
+-- generated project of so many units into a folder
 pub data Task : Type 0 where
   Pipe : (project : List ℕ) → (entries : ℕ) → Task
   Check : (project trace : List ℕ) → Task
@@ -27,8 +27,8 @@ task_of (command.Gen folder units seed) = Generate folder.now units seed
 
 -- the words behind `pipe`: PROJECT [ENTRIES], where ENTRIES is else 65,536
 pub data AsksPipe (words : List (List ℕ)) (task : Task) : Type 0 where
-  usual : (project : List ℕ) → words ≡ project ∷ [] → task ≡ Pipe project 65536 → AsksPipe words task
-  counted : (project word : List ℕ) (entries : ℕ) → words ≡ project ∷ word ∷ [] → IsNumberWithin 3 1048576 word entries → task ≡ Pipe project entries → AsksPipe words task
+  usual : (project : List ℕ) → words ≡ project ∷ [] → task ≡ Pipe project usual_entries → AsksPipe words task
+  counted : (project word : List ℕ) (entries : ℕ) → words ≡ project ∷ word ∷ [] → IsNumberWithin fewest_entries most_entries word entries → task ≡ Pipe project entries → AsksPipe words task
 
 -- the words are PROJECT TRACE, of this task
 pub record AsksOfTrace (asks : List ℕ → List ℕ → Task) (words : List (List ℕ)) (task : Task) : Type 0 where
@@ -52,8 +52,8 @@ pub record AsksToGenerate (words : List (List ℕ)) (task : Task) : Type 0 where
   pub seed : ℕ
   pub words_are : words ≡ folder ∷ units_word ∷ seed_word ∷ []
   pub folder_is : is_folder folder ≡ true
-  pub units_are : IsNumberWithin 1 2000 units_word units
-  pub seed_is : IsNumberWithin 0 2147483647 seed_word seed
+  pub units_are : IsNumberWithin 1 most_units units_word units
+  pub seed_is : IsNumberWithin 0 greatest_seed seed_word seed
   pub task_is : task ≡ Generate folder units seed
 
 -- the word of a verb

@@ -112,14 +112,14 @@ pub record IsCut (text : List ℕ) (old new : List ℕ) : Type 0 where
   pub proper : count < length text
   pub appended : new ≡ old ++ take count text
 
--- A text was appended whole, and the count of faults is as it was; or a proper part of it, and the count rose. So
--- nothing is written behind a fault.
+-- A text was appended whole, and the count of faults is as it was; or a proper part of it, and the count rose. So a
+-- text is never made whole behind a fault.
 pub data Prints (text : List ℕ) (faults_before faults_now : ℕ) (old new : List ℕ) : Type 0 where
   whole : new ≡ old ++ text → faults_now ≡ faults_before → Prints text faults_before faults_now old new
   cut : IsCut text old new → Rose faults_before faults_now → Prints text faults_before faults_now old new
 
--- What is printed at an ending: the whole report, or a proper part of one; else the message, or a proper part of it where
--- a write failed.
+-- What is printed at an ending: the whole report, or a proper part of one; else the message, or a proper part of it
+-- where a write failed.
 abbrev pub Speaks : Ended → ℕ → ℕ → List ℕ → List ℕ → Type 0
 Speaks (Reported report) faults_before faults_now old new = new ≡ old ++ report.text
 Speaks (Cut report) faults_before faults_now old new = IsCut report.text old new

@@ -17,7 +17,7 @@ use Rattle.connection_core.specs.Alone.{alone, own_answers, solo}
 use Rattle.connection_core.specs.Ends.{Served as ServedSo, status_of, last_of}
 use Rattle.connection_core.specs.Entering.{IsServing}
 use Rattle.connection_core.specs.Sessions.{SessionState, StandsAfter, IsIdle, ended, octets_taken}
-use Rattle.modmap.specs.Serving.{Moves, ServesAlone}
+use Rattle.connection_core.specs.Serving.{Moves, ServesAlone}
 
 -- ---- what was entered and answered
 

@@ -4,7 +4,6 @@ pub mod Endings
 pub mod ProjectFiles
 pub mod TraceFiles
 pub mod Reports
-pub mod Serving
 pub mod Ladder
 pub mod Running
 pub mod Replays

@@ -1,5 +1,5 @@
 -- What a status tells of what was read, printed and served.
-use Rattle.std.specs.Prelude.{◌≡◌, ℕ, ◌+◌, ◌<◌, ◌⊎◌, Bool, List, [], ◌++◌, map, length, Err, IfSome, String, string_bytes}
+use Rattle.std.specs.Prelude.{◌≡◌, ℕ, ◌+◌, ◌<◌, ◌≤◌, ◌⊎◌, Bool, List, [], ◌++◌, map, length, Err, IfSome, IsSomeAnd, String, string_bytes}
 use Rattle.std.specs.declared.alloc.Global.{Global}
 use Rattle.mm_outside.specs.Causes.{Rose}
 use Rattle.mm_outside.specs.Files.{Lookup}
@@ -84,10 +84,11 @@ module _ {L : Type 0} (outside : Outside L) (output : Output) (words : List (Str
 
 -- ---- the octets of a link
 
--- the input came to its end behind these octets, which end inside a block
-pub record StopsInside (before now : Octets) : Type 0 where
+-- the input came to its end behind these octets, which are all of it and end inside a block
+pub record EndsInBlock (before now : Octets) : Type 0 where
   pub read : List ℕ
   pub read_are : now.read ≡ before.read ++ read
+  pub all_read : before.to_come ≡ read
   pub over : now.to_come ≡ []
   pub inside : 0 < held read
 
@@ -103,7 +104,20 @@ pub record ReadsTooMuch (project : ProjectView) (entries : ℕ) (before now : Oc
   pub read_are : now.read ≡ before.read ++ read
   pub above : entries < length (acts project (taken read)) + 3
 
--- The words ask to serve the link over a project, which the file declares, and what was read is too much for the history.
+-- the blocks that were read enter no more acts than a history of so many entries has room for, beside its other three
+pub record ReadsWithin (project : ProjectView) (entries : ℕ) (before now : Octets) : Type 0 where
+  pub read : List ℕ
+  pub read_are : now.read ≡ before.read ++ read
+  pub within : length (acts project (taken read)) + 3 ≤ entries
+
+-- where the words ask to serve the link over a project that the file declares, what was read isn't too much for the
+-- history
+abbrev pub FitsHistory : {L : Type 0} → Outside L → List (String Global) → Type 0
+FitsHistory outside words = (name : List ℕ) (entries : ℕ) (project : ProjectView) → AsksFor (map string_bytes words) (Pipe name entries) → IsSomeAnd outside.files_before (λ content. DeclaresProject (content name) project)
+    → Told (ReadsWithin project entries) (outside.octets outside.link_before) (outside.octets outside.link_now)
+
+-- The words ask to serve the link over a project, which the file declares, and what was read is too much for the
+-- history.
 pub record FillsHistory {L : Type 0} (outside : Outside L) (words : List (String Global)) : Type 0 where
   pub name : List ℕ
   pub entries : ℕ

@@ -1,5 +1,5 @@
 -- How a replay goes on with an entry: working definitions, and no part of what is printed.
-use Rattle.std.specs.Prelude.{◌≡◌, ℕ, ◌+◌, ◌==◌, ◌&&◌, ◌||◌, Bool, false, List, [], ◌∷◌, ◌++◌, take, reverse, filter_map, flat_map, Option, Some, None, is_none, option_map}
+use Rattle.std.specs.Prelude.{◌≡◌, ℕ, ◌+◌, ◌==◌, ◌&&◌, ◌||◌, Bool, false, List, ◌++◌, take, reverse, filter_map, flat_map, Option, Some, None, is_none, option_map}
 use Rattle.std.specs.Option.{option_to_list}
 use Rattle.unit_registry.specs.declared.act.Act.{Act}
 use Rattle.unit_registry.specs.declared.act.Act.TheVariants.{Open, Import, Done}
@@ -48,8 +48,8 @@ abbrev pub said_by : Option Answer → Said
 said_by (Some answer) = Reply answer
 said_by None = Nothing
 
--- Whether a unit may end with an entry that is answered so at once: by the entry itself; or by a stall, which comes where
--- no worker is free, and with a Pause or a Done alone.
+-- Whether a unit may end with an entry that is answered so at once: by the entry itself; or by a stall, which comes
+-- where no worker is free, and with a Pause or a Done alone.
 abbrev pub may_end_with : LedgerView → ℕ → Entry → Option Answer → Bool
 may_end_with ledger workers entry own =
     ((is_pause entry.act || is_done entry.act) && open_in ledger + done_in ledger == workers)

@@ -77,14 +77,14 @@ IsOfFile (Reported report) = ⊥
 IsOfFile (Cut report) = ⊥
 IsOfFile WriteFailed = ⊥
 
--- A run that ends so tried no read again that failed: the count of failed reads is as it was, unless the ending is that
--- a file can't be read, or memory was wanted.
+-- A run that ends so hides no read that failed: the count of failed reads is as it was, unless the ending is that a
+-- file can't be read, or memory was wanted.
 pub data KeepsReads (ended : Ended) (reads_before reads_now : ℕ) : Type 0 where
   none_failed : reads_now ≡ reads_before → KeepsReads ended reads_before reads_now
   at_file : (named : List ℕ) → ended ≡ CannotRead named → KeepsReads ended reads_before reads_now
   for_memory : ended ≡ OutOfMemory → KeepsReads ended reads_before reads_now
 
 -- the same of what was read, or an ending in place of it
-abbrev pub HasRead : {A : Type 0} → Result A Ended → ℕ → ℕ → Type 0
-HasRead (Ok read) reads_before reads_now = reads_now ≡ reads_before
-HasRead (Err ended) reads_before reads_now = KeepsReads ended reads_before reads_now
+abbrev pub KeepsReadsOf : {A : Type 0} → Result A Ended → ℕ → ℕ → Type 0
+KeepsReadsOf (Ok read) reads_before reads_now = reads_now ≡ reads_before
+KeepsReadsOf (Err ended) reads_before reads_now = KeepsReads ended reads_before reads_now

@@ -18,7 +18,7 @@ use Rattle.modmap.specs.ListRuns.{HoldsAll, IsUnitFile, ListsSo}
 use Rattle.modmap.specs.ProjectFiles.{DeclaresProject, FindsProject, IsOfFile, KeepsReads}
 use Rattle.modmap.specs.Reports.{ReportsSo, check_report}
 use Rattle.modmap.specs.Replays.{replay_report}
-use Rattle.modmap.specs.Serving.{ServesAlone}
+use Rattle.connection_core.specs.Serving.{ServesAlone}
 use Rattle.modmap.specs.TraceFiles.{HoldsTrace}
 
 -- what files and a link tell before and after a run, and how often their reads and writes have failed
@@ -64,9 +64,9 @@ module _ {L : Type 0} (outside : Outside L) where
     pub link_writes : outside.link_writes_now ≡ outside.link_writes_before
     pub sink_writes : output.faults_now ≡ output.faults_before
 
-  -- A read or a write that failed isn't tried again: behind a status that isn't the one of its fault its count is as it
-  -- was. Behind want of memory a read of a file may have failed, since its message wants memory too.
-  pub record TriesOnce (status : ℕ) : Type 0 where
+  -- No second try hides a read or a write that failed: behind a status that isn't the one of its fault its count is as
+  -- it was. Behind want of memory a read of a file may have failed, since its message wants memory too.
+  pub record HidesNoFault (status : ℕ) : Type 0 where
     pub file_reads : status ≢ 3 → status ≢ 4 → outside.file_reads_now ≡ outside.file_reads_before
     pub file_writes : status ≢ 5 → outside.file_writes_now ≡ outside.file_writes_before
     pub link_reads : status ≢ 4 → outside.link_reads_now ≡ outside.link_reads_before
@@ -158,14 +158,14 @@ pub record LacksFile (words : List (String Global)) (files : Option Lookup) : Ty
   pub absent : IfSome files (λ content. content name ≡ None)
 
 -- a report over a project file and a trace's file is asked for
-abbrev pub AsksReport : List (String Global) → List ℕ → List ℕ → Type 0
-AsksReport words project trace = AsksFor (map string_bytes words) (Check project trace) ⊎ AsksFor (map string_bytes words) (Replay project trace)
+abbrev pub AsksOverTrace : List (String Global) → List ℕ → List ℕ → Type 0
+AsksOverTrace words project trace = AsksFor (map string_bytes words) (Check project trace) ⊎ AsksFor (map string_bytes words) (Replay project trace)
 
 -- all that a report is asked over is there: the one file declares a project, and the other holds a trace
 pub record AreBothThere (words : List (String Global)) (files : Option Lookup) : Type 0 where
   pub project_name : List ℕ
   pub trace_name : List ℕ
-  pub asks : AsksReport words project_name trace_name
+  pub asks : AsksOverTrace words project_name trace_name
   pub project : ProjectView
   pub trace : Trace
   pub project_file : IsSomeAnd files (λ content. DeclaresProject (content project_name) project)

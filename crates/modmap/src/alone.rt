@@ -1,13 +1,14 @@
 //! The call behind the program: words in, a status out.
 
-ghost use Rattle.std.specs.Prelude.{◌≡◌, ◌↔◌, ◌⊎◌, ◌≤◌, ◌+◌, ℕ, List, true, false};
+ghost use Rattle.std.specs.Prelude.{◌≡◌, ◌≢◌, ◌↔◌, ◌⊎◌, ◌≤◌, ◌+◌, ℕ, List, true, false};
 ghost use Rattle.mm_outside.specs.Causes.{Rose};
 ghost use Rattle.mm_outside.specs.Told.{Told};
 ghost use Rattle.cody_words.specs.Canonical.{word_room};
 ghost use Rattle.modmap.specs.Endings.{Ends, frame_room, message_room, output_of, reason_room, told_by};
+ghost use Rattle.modmap.specs.Askings.{fewest_entries, most_entries};
 ghost use Rattle.modmap.specs.Commands.{AsksFor, AsksNothing, Generate, task_of};
-ghost use Rattle.modmap.specs.Meanings.{FillsHistory, Judges, NamesRefused, ReadsBeyond, StopsInside};
-ghost use Rattle.modmap.specs.Running.{AsksToReport, AsksToWrite, Does, DoesTask, HasNoFault, KeepsOthers, LacksFile, NothingHinders, Pipes, TriesOnce, outside_of};
+ghost use Rattle.modmap.specs.Meanings.{FillsHistory, FitsHistory, Judges, NamesRefused, ReadsBeyond, EndsInBlock};
+ghost use Rattle.modmap.specs.Running.{AsksToReport, AsksToWrite, Does, DoesTask, HasNoFault, KeepsOthers, LacksFile, NothingHinders, Pipes, HidesNoFault, outside_of};
 
 use crate::check::run_check;
 use crate::command::Command;
@@ -29,8 +30,8 @@ fn serve_project<'a, F: Files, L: Link>(
     files: &mut F,
     link: &mut L,
 ) -> Ending<'a>
-    requires fewest { 3 ≤ entries }
-    requires most { entries ≤ 1048576 }
+    requires fewest { fewest_entries ≤ entries }
+    requires most { entries ≤ most_entries }
     ensures pipes { Pipes (outside_of F.content F.read_faults F.write_faults L.octets L.read_faults L.write_faults files.old files.new link.old link.new)
         name.now entries (told_by result) }
     ensures room { message_room (told_by result) ≤ word_room name.now + reason_room + frame_room }
@@ -54,8 +55,8 @@ fn run_pipe<F: Files, L: Link, K: Sink>(
     link: &mut L,
     out: &mut K,
 ) -> u8
-    requires fewest { 3 ≤ entries }
-    requires most { entries ≤ 1048576 }
+    requires fewest { fewest_entries ≤ entries }
+    requires most { entries ≤ most_entries }
     ensures run { Ends (Pipes (outside_of F.content F.read_faults F.write_faults L.octets L.read_faults L.write_faults files.old files.new link.old link.new) name.now entries)
         (output_of K.written K.faults out.old out.new) result }
     ensures files { F.write_faults files.new ≡ F.write_faults files.old }
@@ -80,7 +81,7 @@ fn run_command<F: Files, L: Link, K: Sink>(
     requires { (words : List (List ℕ)) × AsksFor words (task_of command) }
     ensures run { Ends (DoesTask (outside_of F.content F.read_faults F.write_faults L.octets L.read_faults L.write_faults files.old files.new link.old link.new) (task_of command.entry))
         (output_of K.written K.faults out.old out.new) result }
-    ensures once { TriesOnce (outside_of F.content F.read_faults F.write_faults L.octets L.read_faults L.write_faults files.old files.new link.old link.new) result }
+    ensures unhidden { HidesNoFault (outside_of F.content F.read_faults F.write_faults L.octets L.read_faults L.write_faults files.old files.new link.old link.new) result }
     ensures files { ((folder : List ℕ) (units seed : ℕ) → task_of command.entry ≡ Generate folder units seed → ⊥) → F.write_faults files.new ≡ F.write_faults files.old }
 {
     match command {
@@ -118,10 +119,11 @@ pub fn run_alone<R, F: Files, L: Link, K: Sink>(
     ensures read_fault { result ≡ 4 → LacksFile words.now (F.content files.old) ⊎ Rose (F.read_faults files.old) (F.read_faults files.new) ⊎ Rose (L.read_faults link.old) (L.read_faults link.new) }
     ensures write_fault { result ≡ 5 → Rose (L.write_faults link.old) (L.write_faults link.new) ⊎ Rose (F.write_faults files.old) (F.write_faults files.new) ⊎ Rose (K.faults out.old) (K.faults out.new) }
 
-    // What is done has no fault behind it. A read or a write that failed isn't tried again, and in `gen` no read fails.
+    // What is done has no fault behind it. No second try hides a read or a write that failed, and in `gen` no read
+    // fails.
     ensures unfailing { (result ≡ 0) ⊎ (result ≡ 1) → HasNoFault (outside_of F.content F.read_faults F.write_faults L.octets L.read_faults L.write_faults files.old files.new link.old link.new)
         (output_of K.written K.faults out.old out.new) }
-    ensures once { TriesOnce (outside_of F.content F.read_faults F.write_faults L.octets L.read_faults L.write_faults files.old files.new link.old link.new) result }
+    ensures unhidden { HidesNoFault (outside_of F.content F.read_faults F.write_faults L.octets L.read_faults L.write_faults files.old files.new link.old link.new) result }
     ensures reads { AsksToWrite words.now → F.read_faults files.new ≡ F.read_faults files.old }
 
     // Only `gen` writes files, and no others than those of its project.
@@ -133,15 +135,17 @@ pub fn run_alone<R, F: Files, L: Link, K: Sink>(
         (output_of K.written K.faults out.old out.new) words.now → (result ≡ 0) ⊎ ((result ≡ 1) ⊎ (result ≡ 3)) }
 
     // Of what is reported on, 0 says that all is well and 1 that it isn't. 6 names a file that is refused. 7, 8 and 9
-    // come only by the octets that were read.
+    // come only by the octets that were read, and 9 comes wherever they are too much for the history, unless a write
+    // failed before.
     ensures well { result ≡ 0 → AsksToReport words.now → Judges (outside_of F.content F.read_faults F.write_faults L.octets L.read_faults L.write_faults files.old files.new link.old link.new)
         (output_of K.written K.faults out.old out.new) words.now true }
     ensures ill { result ≡ 1 → Judges (outside_of F.content F.read_faults F.write_faults L.octets L.read_faults L.write_faults files.old files.new link.old link.new)
         (output_of K.written K.faults out.old out.new) words.now false }
     ensures refused { result ≡ 6 → NamesRefused (outside_of F.content F.read_faults F.write_faults L.octets L.read_faults L.write_faults files.old files.new link.old link.new)
         (output_of K.written K.faults out.old out.new) words.now }
-    ensures cut { result ≡ 7 → Told StopsInside (L.octets link.old) (L.octets link.new) }
+    ensures cut { result ≡ 7 → Told EndsInBlock (L.octets link.old) (L.octets link.new) }
     ensures beyond { result ≡ 8 → Told ReadsBeyond (L.octets link.old) (L.octets link.new) }
+    ensures fits { result ≢ 9 → result ≢ 5 → FitsHistory (outside_of F.content F.read_faults F.write_faults L.octets L.read_faults L.write_faults files.old files.new link.old link.new) words.now }
     ensures full { result ≡ 9 → FillsHistory (outside_of F.content F.read_faults F.write_faults L.octets L.read_faults L.write_faults files.old files.new link.old link.new) words.now }
 {
     match Command::read(words) {

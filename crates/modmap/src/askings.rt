@@ -69,8 +69,8 @@ fn read_counts<'a>(folder: &'a [u8], units: &[u8], seed: &[u8]) -> Option<Comman
 }
 
 /// The command `gen` with these words behind it; `None` where they aren't `FOLDER UNITS SEED` with a FOLDER of 1 to 400
-/// octets, none below 0x20 and none 0x7f, UNITS from 1 to 2,000 and SEED from 0 to 2,147,483,647, decimal without leading
-/// zeros. The form is this project's own.
+/// octets, none below 0x20 and none 0x7f, UNITS from 1 to 2,000 and SEED from 0 to 2,147,483,647, decimal without
+/// leading zeros. The form is this project's own.
 pub fn read_gen(words: &[String]) -> Option<Command<'_>>
     ensures asked { IfSome result (λ command. AsksToGenerate (map string_bytes words.now) (task_of command)) }
     ensures none { IfNone result ((task : Task) → AsksToGenerate (map string_bytes words.now) task → ⊥) }

@@ -97,7 +97,7 @@ pub fn run_check<F: Files, K: Sink>(
 ) -> u8
     ensures run { Ends (ReportsSo (Rose (F.read_faults files.old) (F.read_faults files.new)) (F.content files.old) (F.content files.new) check_report project.now trace.now)
         (output_of K.written K.faults out.old out.new) result }
-    ensures read_once { result ≢ 3 → result ≢ 4 → F.read_faults files.new ≡ F.read_faults files.old }
+    ensures unhidden { result ≢ 3 → result ≢ 4 → F.read_faults files.new ≡ F.read_faults files.old }
     ensures files { F.write_faults files.new ≡ F.write_faults files.old }
 {
     match read_sources(alloc, project, trace, files) {

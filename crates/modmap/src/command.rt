@@ -1,7 +1,7 @@
 //! The commands, as words of the command line.
 
 ghost use Rattle.std.specs.Prelude.{◌≡◌, ◌∷◌, [], ℕ, map, string_bytes, IfNone, IfSome};
-ghost use Rattle.modmap.specs.Askings.{IsNumberWithin};
+ghost use Rattle.modmap.specs.Askings.{IsNumberWithin, fewest_entries, most_entries};
 ghost use Rattle.modmap.specs.Commands.{Task, Check, Replay, task_of, AsksAs, AsksFor, AsksNothing, AsksOfTrace, AsksPipe};
 
 use crate::askings::{read_gen, read_list, read_within};
@@ -57,10 +57,10 @@ pub enum Command<'a> {
 }
 
 impl<'a> Command<'a> {
-    /// The command that the words are, without the program's name; `None` where they are of no form:
-    /// `pipe PROJECT [ENTRIES]` with ENTRIES from 3 to 1,048,576, decimal without leading zeros, `check PROJECT TRACE`,
-    /// `replay PROJECT TRACE`, `list PROJECT`, or `gen FOLDER UNITS SEED` with a FOLDER of 1 to 400 octets, none below 0x20
-    /// and none 0x7f, UNITS from 1 to 2,000 and SEED from 0 to 2,147,483,647. The forms are this project's own.
+    /// The command that the words are, without the program's name; `None` where they are of no form: `pipe PROJECT
+    /// [ENTRIES]` with ENTRIES from 3 to 1,048,576, decimal without leading zeros, `check PROJECT TRACE`, `replay
+    /// PROJECT TRACE`, `list PROJECT`, or `gen FOLDER UNITS SEED` with a FOLDER of 1 to 400 octets, none below 0x20 and
+    /// none 0x7f, UNITS from 1 to 2,000 and SEED from 0 to 2,147,483,647. The forms are this project's own.
     pub fn read(words: &'a [String]) -> Option<Command<'a>>
         ensures asked { IfSome result (λ command. AsksFor (map string_bytes words.now) (task_of command)) }
         ensures only { IfSome result (λ command. (task : Task) → AsksFor (map string_bytes words.now) task → task ≡ task_of command) }
@@ -136,7 +136,7 @@ fn read_pipe(words: &[String]) -> Option<Command<'_>>
 /// The command `pipe` with this project file and this word for the entries.
 fn read_counted<'a>(project: &'a [u8], word: &[u8]) -> Option<Command<'a>>
     ensures asked { IfSome result (λ command. AsksPipe (project.now ∷ word.now ∷ []) (task_of command)) }
-    ensures none { IfNone result ((entries : ℕ) → IsNumberWithin 3 1048576 word.now entries → ⊥) }
+    ensures none { IfNone result ((entries : ℕ) → IsNumberWithin fewest_entries most_entries word.now entries → ⊥) }
 {
     match read_within(FEWEST_ENTRIES, MOST_ENTRIES, word) {
         Some(entries) => Some(Command::Pipe { project, entries }),

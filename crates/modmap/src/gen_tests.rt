@@ -135,7 +135,8 @@ fn sources_octets(alloc: Global, files: &MemFiles, units: u32) -> Option<usize> 
     Some(octets)
 }
 
-/// Whether a generated project of 200 units has the two sources, and so many octets of sources in all.
+/// Whether a generated project of 200 units has the two sources, and so many octets of sources and of its project file
+/// in all.
 fn large_project_is_due(rt: &HostRuntime) -> Option<bool> {
     let alloc = rt.alloc();
     let mut files = no_files(alloc, 1_000_000, &[])?;
@@ -146,7 +147,8 @@ fn large_project_is_due(rt: &HostRuntime) -> Option<bool> {
             return Some(false);
         }
     }
-    Some(sources_octets(alloc, &files, 200)? == 17_505)
+    let sources = sources_octets(alloc, &files, 200)?;
+    Some(sources == 17_505 && files.content(b"d/project")?.len() == 4_214)
 }
 
 /// The status of generating a project of one unit in a folder whose name has so many octets.

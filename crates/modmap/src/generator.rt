@@ -4,6 +4,7 @@ ghost use Rattle.std.specs.Prelude.{◌≡◌, ◌≤◌, ◌+◌, length};
 ghost use Rattle.mm_outside.specs.Causes.{HasCause, Rose};
 ghost use Rattle.mm_outside.specs.Files.{Stores};
 ghost use Rattle.mm_outside.specs.Told.{Told};
+ghost use Rattle.modmap.specs.Askings.{longest_folder, most_units};
 ghost use Rattle.modmap.specs.Endings.{Ends, output_of};
 ghost use Rattle.modmap.specs.Generating.{GeneratesSo, WritesAll, capacity_of, files_of, project_name, source_files, source_name, wrote_text};
 
@@ -139,8 +140,8 @@ pub fn run_gen<F: Files, K: Sink>(
     files: &mut F,
     out: &mut K,
 ) -> u8
-    requires folder { length folder.now ≤ 400 }
-    requires units { units ≤ 2000 }
+    requires folder { length folder.now ≤ longest_folder }
+    requires units { units ≤ most_units }
     ensures run { Ends (GeneratesSo (Rose (F.write_faults files.old) (F.write_faults files.new)) (F.write_faults files.new ≡ F.write_faults files.old) (F.content files.old) (F.content files.new) folder.now units seed)
         (output_of K.written K.faults out.old out.new) result }
     ensures read_faults { F.read_faults files.new ≡ F.read_faults files.old }

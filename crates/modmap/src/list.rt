@@ -92,7 +92,7 @@ fn report_on<K: Sink>(
 pub fn run_list<F: Files, K: Sink>(alloc: Global, name: &[u8], files: &mut F, out: &mut K) -> u8
     ensures run { Ends (ListsSo (Rose (F.read_faults files.old) (F.read_faults files.new)) (F.content files.old) (F.content files.new) name.now)
         (output_of K.written K.faults out.old out.new) result }
-    ensures read_once { result ≢ 3 → result ≢ 4 → F.read_faults files.new ≡ F.read_faults files.old }
+    ensures unhidden { result ≢ 3 → result ≢ 4 → F.read_faults files.new ≡ F.read_faults files.old }
     ensures files { F.write_faults files.new ≡ F.write_faults files.old }
 {
     let project = match read_project(alloc, files, name) {

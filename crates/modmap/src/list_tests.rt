@@ -130,7 +130,8 @@ const BUILT: &[u8] = b"modmap-project 1\nrepo gcm.cache\nbuilt module b b.cc\nmo
 const ABOVE: &[u8] = b"export module c; import b; T f();";
 
 /// Texts in the file of the interface of the unit that was built before, the status and what is printed: its own
-/// interface; another unit's; a text at fault at each of the lines; and another unit's that is at fault on a later line.
+/// interface; another unit's; a text at fault at each of the lines; and another unit's that is at fault on a later
+/// line.
 const CMIS: [Case; 10] = [
     Case {
         text: b"modmap-cmi 1\nunit b interface\nexport struct T b\ninner struct T b\nend\n",
@@ -275,8 +276,8 @@ struct Units {
 }
 
 /// Rings of one, of two and of three, with a unit above each; imports that no unit is declared for; a partition of
-/// another module; a partition without an interface that is exported; and a partition whose whole name is spelled out in
-/// another module.
+/// another module; a partition without an interface that is exported; and a partition whose whole name is spelled out
+/// in another module.
 const FAILURES: [Units; 6] = [
     Units {
         project: ABC,
@@ -457,8 +458,8 @@ fn failing_reads(rt: HostRuntime) -> Result<(), Fail> {
     Ok(())
 }
 
-/// Whether the report on the worked project ends with status 5 and nothing of it is printed where the first write to the
-/// sink fails, though the sink would take more behind it.
+/// Whether the report on the worked project ends with status 5 and nothing of it is printed where the first write to
+/// the sink fails, though the sink would take more behind it.
 fn is_not_begun(rt: &HostRuntime) -> Option<bool> {
     let mut files = files_of(rt.alloc(), &WORKED, 4_000, &[])?;
     ends_so(rt, &["list", "p"], &mut files, &[0], 5, b"")

@@ -1,5 +1,5 @@
-//! A C++20 module mapper server over the libcody protocol. Today it serves one link, over standard input and output, checks
-//! and replays traces, compiles the units of a project one by one with a report, and generates projects.
+//! A C++20 module mapper server over the libcody protocol. Today it serves one link, over standard input and output,
+//! checks and replays traces, compiles the units of a project one by one with a report, and generates projects.
 #![tactic(auto)]
 
 ghost use Rattle.std.specs.Prelude.{◌≡◌, ◌≢◌, ◌↔◌, IsTrue};

@@ -7,7 +7,8 @@ ghost use Rattle.connection_core.specs.Sessions.{octets_taken, StandsAfter};
 ghost use Rattle.connection_core.specs.Ends.{HasCauses, last_of};
 ghost use Rattle.registry_core.specs.Alone.{told_alone};
 ghost use Rattle.registry_core.specs.Ledgers.{leaving};
-ghost use Rattle.modmap.specs.Serving.{ServesAlone};
+ghost use Rattle.modmap.specs.Askings.{fewest_entries, most_entries};
+ghost use Rattle.connection_core.specs.Serving.{ServesAlone};
 ghost use Rattle.modmap.specs.Ladder.{Goes, IsAlone, IsReady, Left, Served, Stands, Turns};
 
 use connection_core::{ConnEnd, Session, Took, Turn};
@@ -27,8 +28,8 @@ pub fn pipe<L: Link>(
     entries: u32,
     link: &mut L,
 ) -> Result<ConnEnd, Memory>
-    requires fewest { 3 ≤ entries }
-    requires most { entries ≤ 1048576 }
+    requires fewest { fewest_entries ≤ entries }
+    requires most { entries ≤ most_entries }
     ensures served { IfOk result (λ how. Told (ServesAlone project.now entries how) (L.octets link.old) (L.octets link.new)) }
     ensures causes { IfOk result (λ how. HasCauses (L.read_faults link.old) (L.read_faults link.new) (L.write_faults link.old) (L.write_faults link.new) how) }
     ensures memory { OnErr result (link.new ≡ link.old) }

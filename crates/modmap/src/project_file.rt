@@ -7,7 +7,7 @@ ghost use Rattle.cody_words.specs.Canonical.{word_room};
 ghost use Rattle.unit_registry.specs.Reasons.{reason_text};
 ghost use Rattle.modmap.specs.Endings.{frame_room, message_room, reason_room, told_by};
 ghost use Rattle.modmap.specs.ListRuns.{IsDeclared};
-ghost use Rattle.modmap.specs.ProjectFiles.{FindsProject, HasRead, IsOfFile, IsReadAs, most_project_octets, read_as};
+ghost use Rattle.modmap.specs.ProjectFiles.{FindsProject, KeepsReadsOf, IsOfFile, IsReadAs, most_project_octets, read_as};
 
 use crate::ending::Ending;
 use mm_outside::{Files, ReadAllError};
@@ -54,7 +54,7 @@ pub fn read_project<'a, F: Files>(
     ensures declared { IfOk result IsDeclared }
     ensures kind { IfErr result (λ ending. IsOfFile (told_by ending)) }
     ensures room { IfErr result (λ ending. message_room (told_by ending) ≤ word_room name.now + reason_room + frame_room) }
-    ensures kept { HasRead (read_as result) (F.read_faults files.old) (F.read_faults files.new) }
+    ensures kept { KeepsReadsOf (read_as result) (F.read_faults files.old) (F.read_faults files.new) }
     ensures read_faults { F.read_faults files.old ≤ F.read_faults files.new }
     ensures write_faults { F.write_faults files.new ≡ F.write_faults files.old }
 {

@@ -209,7 +209,7 @@ fn drop_settled(waiting: &mut Vec<Wait>, book: &Book<NoShelf>)
     waiting.retain(|wait| book.is_open(wait.conn) && book.look(wait.place).is_none());
 }
 
-/// The same, where none of them is looked at, since all of them wait.
+/// The same. Where no unit can have ended, all of them wait, and none is looked at.
 fn drop_if_settled(waiting: &mut Vec<Wait>, book: &Book<NoShelf>, ends: bool)
     requires idle { ends ≡ false → filter (waits_in book.now.ledger) waiting.old.items ≡ waiting.old.items }
     ensures items { waiting.new.items ≡ filter (waits_in book.now.ledger) waiting.old.items }
@@ -327,7 +327,7 @@ impl Page {
         Ok(())
     }
 
-    /// The same, where none of them is looked at, since none can have a reply yet.
+    /// The same. Where no unit can have ended, none of them has a reply yet, and none is looked at.
     fn put_if_ended<K: Sink>(
         &mut self,
         project: &Project,
@@ -384,8 +384,8 @@ impl Player {
         Ok(Player { board, page })
     }
 
-    /// Enters an entry that passes the checks, and puts its lines. After `Failed` the imports that wait aren't those any
-    /// more.
+    /// Enters an entry that passes the checks, and puts its lines. After `Failed` the imports that wait aren't those
+    /// any more.
     fn play<K: Sink>(
         &mut self,
         project: &Project,
@@ -595,7 +595,7 @@ pub fn run_replay<F: Files, K: Sink>(
 ) -> u8
     ensures run { Ends (ReportsSo (Rose (F.read_faults files.old) (F.read_faults files.new)) (F.content files.old) (F.content files.new) replay_report project.now trace.now)
         (output_of K.written K.faults out.old out.new) result }
-    ensures read_once { result ≢ 3 → result ≢ 4 → F.read_faults files.new ≡ F.read_faults files.old }
+    ensures unhidden { result ≢ 3 → result ≢ 4 → F.read_faults files.new ≡ F.read_faults files.old }
     ensures files { F.write_faults files.new ≡ F.write_faults files.old }
 {
     match read_sources(alloc, project, trace, files) {

@@ -1,7 +1,7 @@
 //! Worked examples of replays, by tables of traces and what is printed of them.
 
 use crate::alone::run_alone;
-use crate::trace_tests::{PROJECT, Row, ends_so, files_of, words_of};
+use crate::trace_tests::{GONE, PROJECT, Row, ends_so, files_of, words_of};
 use mm_outside::{MemLink, MemSink, Sink};
 use std::alloc::Global;
 use std::test::Fail;
@@ -15,9 +15,9 @@ module z z.cc
 end
 ";
 
-/// Replays over the project of two modules, each a trace, the status and the output: an import that waits until its unit
-/// is compiled; a ring of two, whose second import is refused; a holder that goes, so that its unit fails; no entries; the
-/// greatest limit that a trace may name; a trace that isn't legal.
+/// Replays over the project of two modules, each a trace, the status and the output: an import that waits until its
+/// unit is compiled; a ring of two, whose second import is refused; a holder that goes, so that its unit fails; no
+/// entries; the greatest limit that a trace may name; a trace that isn't legal.
 const REPLAYS: [(&[u8], u8, &[u8]); 6] = [
     (
         b"modmap-trace 1 2 40
@@ -126,10 +126,8 @@ open 2 waiting 0
     (GONE, 1, b"illegal 2 conn not open\n"),
 ];
 
-/// A trace over the project of two modules that isn't legal.
-const GONE: &[u8] = b"modmap-trace 1 1 9\n0 open\n0 left\n0 repo\nend 3\n";
-
-/// A replay of that trace at which something is at fault, with the numbers of the reads and the writes that fail.
+/// A replay of a trace that isn't legal at which something is at fault, with the numbers of the reads and the writes
+/// that fail.
 #[derive(Drop)]
 struct Faulty {
     words: &'static [&'static str],
@@ -295,9 +293,9 @@ fn printed_before(
     }
 }
 
-/// Whether a replay of the long trace at which one write fails ends with status 5 and has printed what the writes before
-/// it took, which is so many octets at least, though the sink would take the writes behind it. The second list has the
-/// number of that write, and all later ones.
+/// Whether a replay of the long trace at which one write fails ends with status 5 and has printed what the writes
+/// before it took, which is so many octets at least, though the sink would take the writes behind it. The second list
+/// has the number of that write, and all later ones.
 fn is_cut(
     rt: &HostRuntime,
     alloc: Global,

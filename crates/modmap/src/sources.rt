@@ -3,7 +3,7 @@
 ghost use Rattle.std.specs.Prelude.{◌≡◌, IfErr, IfOk};
 ghost use Rattle.mm_outside.specs.Causes.{Rose};
 ghost use Rattle.modmap.specs.Endings.{told_by};
-ghost use Rattle.modmap.specs.ProjectFiles.{HasRead, IsOfFile, read_as};
+ghost use Rattle.modmap.specs.ProjectFiles.{KeepsReadsOf, IsOfFile, read_as};
 ghost use Rattle.modmap.specs.Reports.{FindsBoth};
 ghost use Rattle.modmap.specs.TraceFiles.{HasForm};
 
@@ -35,7 +35,7 @@ pub fn read_sources<'a, F: Files>(
     ensures found { FindsBoth (Rose (F.read_faults files.old) (F.read_faults files.new)) (F.content files.old) (F.content files.new) project.now trace.now (read_as result) }
     ensures form { IfOk result (λ sources. HasForm sources.trace) }
     ensures kind { IfErr result (λ ending. IsOfFile (told_by ending)) }
-    ensures kept { HasRead (read_as result) (F.read_faults files.old) (F.read_faults files.new) }
+    ensures kept { KeepsReadsOf (read_as result) (F.read_faults files.old) (F.read_faults files.new) }
     ensures write_faults { F.write_faults files.new ≡ F.write_faults files.old }
 {
     match read_project(alloc, files, project) {

@@ -16,6 +16,12 @@ const FRAME_ROOM: u32 = 60;
 /// The most octets of the reason of a project file's first fault.
 const REASON_ROOM: usize = 20;
 
+/// The longest name of which a message is made.
+const LONGEST_NAME: usize = 1_000_000_000;
+
+/// The longest reason of which a message is made.
+const LONGEST_REASON: usize = 1_000;
+
 /// Prints a text that isn't empty, whole unless a write fails.
 fn print_some<K: Sink>(text: &[u8], out: &mut K)
     requires { 0 < length text.now }
@@ -24,12 +30,6 @@ fn print_some<K: Sink>(text: &[u8], out: &mut K)
 {
     let _ = print(out, text);
 }
-
-/// The longest name of which a message is made.
-const LONGEST_NAME: usize = 1_000_000_000;
-
-/// The longest reason of which a message is made.
-const LONGEST_REASON: usize = 1_000;
 
 /// Prints a text, whole unless a write fails, which changes no status. Behind a failed write nothing more is written.
 pub fn print_text<K: Sink>(text: &[u8], out: &mut K)

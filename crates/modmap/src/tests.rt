@@ -4,21 +4,12 @@ mod faults;
 mod limits;
 
 use crate::alone::run_alone;
+use crate::trace_tests::{PROJECT, words_of};
 use mm_outside::{MemFiles, MemLink, MemSink, Text};
 use std::alloc::Global;
 use std::test::Fail;
 
-/// A project of two modules, a header unit and a plain unit.
-const PROJECT: &[u8] = b"modmap-project 1
-repo gcm.cache
-module a a.cc
-module b b.cc
-header ./x.h x.h
-plain main.cc
-end
-";
-
-/// The same, with its second module built before.
+/// The project of two modules, a header unit and a plain unit, with its second module built before.
 const BUILT: &[u8] = b"modmap-project 1
 repo gcm.cache
 module a a.cc
@@ -50,7 +41,7 @@ struct Row<'a> {
 }
 
 /// The worked examples of one connection.
-const ROWS: [Row<'static>; 20] = [
+const ROWS: [Row<'static>; 21] = [
     Row {
         project: PROJECT,
         words: &["pipe", "p"],
@@ -211,16 +202,15 @@ const ROWS: [Row<'static>; 20] = [
         status: 2,
         message: b"modmap: bad words\n",
     },
+    Row {
+        project: PROJECT,
+        words: &["pipe"],
+        input: b"FOO\n",
+        output: b"",
+        status: 2,
+        message: b"modmap: bad words\n",
+    },
 ];
-
-/// The words as a command line has them.
-fn words_of(alloc: Global, words: &[&str]) -> Result<Vec<String>, Fail> {
-    let mut owned = Vec::new(alloc);
-    for word in words {
-        owned.push(String::from_str(alloc, word)?)?;
-    }
-    Ok(owned)
-}
 
 /// Files with a project file `p` and no other.
 fn files_of(alloc: Global, project: &[u8]) -> Result<MemFiles, Fail> {
@@ -231,7 +221,7 @@ fn files_of(alloc: Global, project: &[u8]) -> Result<MemFiles, Fail> {
 
 /// Whether a run over this link comes to what the row says.
 fn comes_to(rt: &HostRuntime, alloc: Global, row: &Row<'_>, link: MemLink) -> Result<bool, Fail> {
-    let words = words_of(alloc, row.words)?;
+    let words = words_of(alloc, row.words).ok_or("memory")?;
     let mut files = files_of(alloc, row.project)?;
     let mut link = link;
     let mut out = MemSink::new(alloc, 200, &[])?;

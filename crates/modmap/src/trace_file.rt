@@ -4,7 +4,7 @@ ghost use Rattle.std.specs.Prelude.{◌≡◌, ◌≤◌, Some, length, IfErr, I
 ghost use Rattle.mm_outside.specs.Causes.{Rose};
 ghost use Rattle.mm_outside.specs.Told.{Told};
 ghost use Rattle.modmap.specs.Endings.{told_by};
-ghost use Rattle.modmap.specs.ProjectFiles.{HasRead, IsOfFile, read_as};
+ghost use Rattle.modmap.specs.ProjectFiles.{KeepsReadsOf, IsOfFile, read_as};
 ghost use Rattle.modmap.specs.TraceFiles.{FindsTrace, HasForm, IsTraceReadAs, most_trace_octets};
 
 use crate::ending::Ending;
@@ -42,7 +42,7 @@ pub fn read_trace<'a, F: Files>(
     ensures content { Told (FindsTrace (Rose (F.read_faults files.old) (F.read_faults files.new)) name.now (read_as result)) (F.content files.old) (F.content files.new) }
     ensures form { IfOk result (λ trace. HasForm trace) }
     ensures kind { IfErr result (λ ending. IsOfFile (told_by ending)) }
-    ensures kept { HasRead (read_as result) (F.read_faults files.old) (F.read_faults files.new) }
+    ensures kept { KeepsReadsOf (read_as result) (F.read_faults files.old) (F.read_faults files.new) }
     ensures read_faults { F.read_faults files.old ≤ F.read_faults files.new }
     ensures write_faults { F.write_faults files.new ≡ F.write_faults files.old }
 {

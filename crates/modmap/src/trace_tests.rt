@@ -16,7 +16,7 @@ end
 ";
 
 /// A trace of three entries, the last of which isn't legal.
-const GONE: &[u8] = b"modmap-trace 1 1 9
+pub const GONE: &[u8] = b"modmap-trace 1 1 9
 0 open
 0 left
 0 repo

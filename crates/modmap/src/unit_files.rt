@@ -7,7 +7,7 @@ ghost use Rattle.header_units.specs.Names.{name_kind};
 ghost use Rattle.unit_registry.specs.Projects.{is_built, name_of, unit_count};
 ghost use Rattle.modmap.specs.Endings.{OutOfMemory, told_by};
 ghost use Rattle.modmap.specs.ListRuns.{AddsSo, BuiltHaveNames, CmiSo, FileSo, Fit, GathersSo, SourceSo, Stay, TextSo, cmi_file, ended_at, ended_by, most_source_octets, stopped_as};
-ghost use Rattle.modmap.specs.ProjectFiles.{HasRead};
+ghost use Rattle.modmap.specs.ProjectFiles.{KeepsReadsOf};
 ghost use Rattle.modmap.specs.declared.unit_files.Stop.TheVariants as stop;
 
 use crate::ending::Ending;
@@ -107,7 +107,7 @@ fn stop_at(alloc: Global, name: &[u8], fault: Fault) -> Stop
 fn read_file<F: Files>(alloc: Global, name: &[u8], most: u64, files: &mut F) -> Result<Bytes, Stop>
     ensures file { Told (Stay (FileSo (Rose (F.read_faults files.old) (F.read_faults files.new)) name.now most result)) (F.content files.old) (F.content files.new) }
     ensures bound { IfOk result (λ text. length text ≤ most) }
-    ensures kept { HasRead (stopped_as result) (F.read_faults files.old) (F.read_faults files.new) }
+    ensures kept { KeepsReadsOf (stopped_as result) (F.read_faults files.old) (F.read_faults files.new) }
     ensures later { F.read_faults files.old ≤ F.read_faults files.new }
     ensures write_faults { F.write_faults files.new ≡ F.write_faults files.old }
 {
@@ -132,7 +132,7 @@ fn read_source<F: Files>(
     requires source { is_built project.now unit ≡ false }
     ensures file { Told (Stay (SourceSo (Rose (F.read_faults files.old) (F.read_faults files.new)) project.now unit result)) (F.content files.old) (F.content files.new) }
     ensures bound { IfOk result (λ text. length text ≤ most_source_octets) }
-    ensures kept { HasRead (stopped_as result) (F.read_faults files.old) (F.read_faults files.new) }
+    ensures kept { KeepsReadsOf (stopped_as result) (F.read_faults files.old) (F.read_faults files.new) }
     ensures later { F.read_faults files.old ≤ F.read_faults files.new }
     ensures write_faults { F.write_faults files.new ≡ F.write_faults files.old }
 {
@@ -195,7 +195,7 @@ fn read_cmi<F: Files>(
     requires built { is_built project.now unit ≡ true }
     requires named { name_kind (name_of project.now unit) ≢ None }
     ensures file { Told (Stay (CmiSo (Rose (F.read_faults files.old) (F.read_faults files.new)) project.now unit result)) (F.content files.old) (F.content files.new) }
-    ensures kept { HasRead (stopped_as result) (F.read_faults files.old) (F.read_faults files.new) }
+    ensures kept { KeepsReadsOf (stopped_as result) (F.read_faults files.old) (F.read_faults files.new) }
     ensures later { F.read_faults files.old ≤ F.read_faults files.new }
     ensures write_faults { F.write_faults files.new ≡ F.write_faults files.old }
 {
@@ -222,7 +222,7 @@ fn add_built<F: Files>(
     requires fit { Fit project.now unit gathered.old.sources gathered.old.built }
     ensures file { Told (Stay (AddsSo (Rose (F.read_faults files.old) (F.read_faults files.new)) project.now unit result gathered.old gathered.new)) (F.content files.old) (F.content files.new) }
     ensures fit { OnOk result (Fit project.now (suc unit) gathered.new.sources gathered.new.built) }
-    ensures kept { HasRead (stopped_as result) (F.read_faults files.old) (F.read_faults files.new) }
+    ensures kept { KeepsReadsOf (stopped_as result) (F.read_faults files.old) (F.read_faults files.new) }
     ensures later { F.read_faults files.old ≤ F.read_faults files.new }
     ensures write_faults { F.write_faults files.new ≡ F.write_faults files.old }
 {
@@ -249,7 +249,7 @@ fn add_source<F: Files>(
     requires fit { Fit project.now unit gathered.old.sources gathered.old.built }
     ensures file { Told (Stay (AddsSo (Rose (F.read_faults files.old) (F.read_faults files.new)) project.now unit result gathered.old gathered.new)) (F.content files.old) (F.content files.new) }
     ensures fit { OnOk result (Fit project.now (suc unit) gathered.new.sources gathered.new.built) }
-    ensures kept { HasRead (stopped_as result) (F.read_faults files.old) (F.read_faults files.new) }
+    ensures kept { KeepsReadsOf (stopped_as result) (F.read_faults files.old) (F.read_faults files.new) }
     ensures later { F.read_faults files.old ≤ F.read_faults files.new }
     ensures write_faults { F.write_faults files.new ≡ F.write_faults files.old }
 {
@@ -275,7 +275,7 @@ fn add_unit<F: Files>(
     requires fit { Fit project.now unit gathered.old.sources gathered.old.built }
     ensures file { Told (Stay (AddsSo (Rose (F.read_faults files.old) (F.read_faults files.new)) project.now unit result gathered.old gathered.new)) (F.content files.old) (F.content files.new) }
     ensures fit { OnOk result (Fit project.now (suc unit) gathered.new.sources gathered.new.built) }
-    ensures kept { HasRead (stopped_as result) (F.read_faults files.old) (F.read_faults files.new) }
+    ensures kept { KeepsReadsOf (stopped_as result) (F.read_faults files.old) (F.read_faults files.new) }
     ensures later { F.read_faults files.old ≤ F.read_faults files.new }
     ensures write_faults { F.write_faults files.new ≡ F.write_faults files.old }
 {
@@ -291,7 +291,7 @@ pub fn gather<F: Files>(alloc: Global, project: &Project, files: &mut F) -> Resu
     requires named { BuiltHaveNames project.now }
     ensures files { Told (Stay (GathersSo (Rose (F.read_faults files.old) (F.read_faults files.new)) project.now result)) (F.content files.old) (F.content files.new) }
     ensures fit { IfOk result (λ gathered. Fit project.now (unit_count project.now) gathered.sources gathered.built) }
-    ensures kept { HasRead (stopped_as result) (F.read_faults files.old) (F.read_faults files.new) }
+    ensures kept { KeepsReadsOf (stopped_as result) (F.read_faults files.old) (F.read_faults files.new) }
     ensures later { F.read_faults files.old ≤ F.read_faults files.new }
     ensures write_faults { F.write_faults files.new ≡ F.write_faults files.old }
 {

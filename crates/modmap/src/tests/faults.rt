@@ -1,6 +1,7 @@
 //! Inputs that end early, reads and writes that move one octet, and each read and write failing in turn.
 
-use super::{BUILT, PROJECT, Row, comes_to};
+use super::{BUILT, Row, comes_to};
+use crate::trace_tests::PROJECT;
 use mm_outside::MemLink;
 use std::alloc::Global;
 use std::test::Fail;

@@ -1,8 +1,8 @@
 //! Lines, blocks and files at their limits and one past them.
 
-use super::{PROJECT, Row, comes_to};
+use super::{Row, comes_to};
 use crate::alone::run_alone;
-use crate::trace_tests::words_of;
+use crate::trace_tests::{PROJECT, words_of};
 use mm_outside::{MemFiles, MemLink, MemSink, Text};
 use std::alloc::Global;
 use std::test::Fail;
@@ -73,19 +73,25 @@ fn longest_block(rt: HostRuntime) -> Result<(), Fail> {
     Ok(())
 }
 
-#[test]
-fn file_too_long(rt: HostRuntime) -> Result<(), Fail> {
-    let project = octets(rt.alloc(), 16_777_217)?;
+/// Whether `pipe p` over a project file of so many octets ends with status 6, a message and no reply.
+fn is_refused(rt: &HostRuntime, count: usize, message: &[u8]) -> Result<bool, Fail> {
+    let project = octets(rt.alloc(), count)?;
     let row = Row {
         project: &project,
         words: &["pipe", "p"],
         input: b"FOO\n",
         output: b"",
         status: 6,
-        message: b"modmap: p: file too long\n",
+        message,
     };
     let link = MemLink::new(rt.alloc(), row.input, 400, &[], &[], &[], &[])?;
-    assert!(rt; comes_to(&rt, rt.alloc(), &row, link)?);
+    comes_to(rt, rt.alloc(), &row, link)
+}
+
+#[test]
+fn longest_project(rt: HostRuntime) -> Result<(), Fail> {
+    assert!(rt; is_refused(&rt, 16_777_216, b"modmap: p:1: malformed line\n")?);
+    assert!(rt; is_refused(&rt, 16_777_217, b"modmap: p: file too long\n")?);
     Ok(())
 }
 

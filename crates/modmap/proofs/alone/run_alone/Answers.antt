@@ -1,9 +1,10 @@
 use Rattle.std.proofs.Common.{true, false, refl, sym, subst, ◌∙◌}
 use Rattle.std.specs.Prelude.{map, string_bytes}
 use Rattle.mm_outside.proofs.ToldLemmas.{Told-same}
-use Rattle.modmap.specs.Commands.{task_of, AsksFor}
+use Rattle.modmap.specs.Commands.{Pipe, task_of, AsksFor}
 use Rattle.modmap.specs.Endings.{BadWords}
 use Rattle.modmap.specs.Running.{IsReport, nothing, asked}
+use Rattle.modmap.proofs.Fitting.{task_fits}
 use Rattle.modmap.proofs.Forms.{one_task}
 use Rattle.modmap.proofs.MeaningLemmas.{names_refused, task_eight, task_judges, task_nine, task_seven}
 use Rattle.modmap.proofs.PrintLemmas.{ends_map}
@@ -41,7 +42,7 @@ returns-in-Some-clause-write_fault g c = λ five.
     task_five _ (task_of c.in-Some.command) run.ending _ _ run.so run.cause (sym run.status_is ∙ five)
 
 pub returns-in-Some-clause-unfailing : goal.returns-in-Some-clause-unfailing
-returns-in-Some-clause-unfailing g c = λ done. done_well _ _ _ c.run_command.ensures.once (ends_well c.run_command.ensures.run done) done
+returns-in-Some-clause-unfailing g c = λ done. done_well _ _ _ c.run_command.ensures.unhidden (ends_well c.run_command.ensures.run done) done
 
 pub returns-in-Some-clause-reads : goal.returns-in-Some-clause-reads
 returns-in-Some-clause-reads g c = λ there.
@@ -80,6 +81,11 @@ returns-in-Some-clause-beyond g c = λ eight.
     let run = c.run_command.ensures.run in
     task_eight _ (task_of c.in-Some.command) run.ending run.so (sym run.status_is ∙ eight)
 
+pub returns-in-Some-clause-fits : goal.returns-in-Some-clause-fits
+returns-in-Some-clause-fits g c = λ nine five.
+    let run = c.run_command.ensures.run in
+    task_fits _ c.args.words.now (task_of c.in-Some.command) run.ending c.in-Some.ensures.asked run.so (λ e. nine (run.status_is ∙ e)) (λ e. five (run.status_is ∙ e))
+
 pub returns-in-Some-clause-full : goal.returns-in-Some-clause-full
 returns-in-Some-clause-full g c = λ nine.
     let run = c.run_command.ensures.run in
@@ -99,14 +105,17 @@ returns-in-None-clause-run g c = record { ending = BadWords; status_is = refl; s
 pub returns-in-None-clause-words : goal.returns-in-None-clause-words
 returns-in-None-clause-words g c = (λ two. c.in-None.ensures.none, λ none. refl)
 
+pub returns-in-None-clause-fits : goal.returns-in-None-clause-fits
+returns-in-None-clause-fits g c = λ nine five name entries project asks known. absurd (c.in-None.ensures.none (Pipe name entries) asks)
+
 pub returns-in-None-clause-whole : goal.returns-in-None-clause-whole
 returns-in-None-clause-whole g c = λ hinders. absurd (none_whole _ _ c.args.words.now c.in-None.ensures.none hinders)
 
 pub returns-in-None-clause-others : goal.returns-in-None-clause-others
 returns-in-None-clause-others g c = Told-same (λ x. λ name spared. refl)
 
-pub returns-in-None-clause-once : goal.returns-in-None-clause-once
-returns-in-None-clause-once g c = record { file_reads = λ three four. refl; file_writes = λ five. refl; link_reads = λ four. refl; link_writes = λ five. refl }
+pub returns-in-None-clause-unhidden : goal.returns-in-None-clause-unhidden
+returns-in-None-clause-unhidden g c = record { file_reads = λ three four. refl; file_writes = λ five. refl; link_reads = λ four. refl; link_writes = λ five. refl }
 
 pub returns-in-None-clause-idle : goal.returns-in-None-clause-idle
 returns-in-None-clause-idle g c = λ two. refl

@@ -1,7 +1,7 @@
 use Rattle.std.proofs.Common.{ap, refl, subst}
 use Rattle.modmap.specs.Commands.{Pipe, Check, Replay, ListUnits, Generate, task_of, AsksFor}
 use Rattle.modmap.proofs.PrintLemmas.{ends_map}
-use Rattle.modmap.proofs.Runnings.{piped_once}
+use Rattle.modmap.proofs.Runnings.{piped_unhidden}
 use Rattle.modmap.proofs.Tasks.{ends_same, gen_bounds}
 use Rattle.modmap.proofs.Writings.{gen_kept}
 use Rattle.modmap.proofs.alone.run_command.Goals as goal
@@ -26,22 +26,22 @@ returns-in-List-clause-run g c = ends_same _ (ListUnits c.in-List.project.now) _
 pub returns-in-Gen-clause-run : goal.returns-in-Gen-clause-run
 returns-in-Gen-clause-run g c = ends_same _ (Generate c.in-Gen.folder.now c.in-Gen.units c.in-Gen.seed) _ _ _ (ap task_of c.in-Gen.is) (ends_map (λ ended so. record { generates_so = so; reads = c.run_gen.ensures.read_faults; link = refl }) c.run_gen.ensures.run)
 
-pub returns-in-Pipe-clause-once : goal.returns-in-Pipe-clause-once
-returns-in-Pipe-clause-once g c =
+pub returns-in-Pipe-clause-unhidden : goal.returns-in-Pipe-clause-unhidden
+returns-in-Pipe-clause-unhidden g c =
     let run = c.run_pipe.ensures.run in
-    piped_once _ c.in-Pipe.project.now c.in-Pipe.entries run.ending _ run.status_is run.so c.run_pipe.ensures.files (λ same. ap (λ link. g.L.Link.read_faults link) same) (λ same. ap (λ link. g.L.Link.write_faults link) same)
+    piped_unhidden _ c.in-Pipe.project.now c.in-Pipe.entries run.ending _ run.status_is run.so c.run_pipe.ensures.files (λ same. ap (λ link. g.L.Link.read_faults link) same) (λ same. ap (λ link. g.L.Link.write_faults link) same)
 
-pub returns-in-Check-clause-once : goal.returns-in-Check-clause-once
-returns-in-Check-clause-once g c = record { file_reads = c.run_check.ensures.read_once; file_writes = λ five. c.run_check.ensures.files; link_reads = λ four. refl; link_writes = λ five. refl }
+pub returns-in-Check-clause-unhidden : goal.returns-in-Check-clause-unhidden
+returns-in-Check-clause-unhidden g c = record { file_reads = c.run_check.ensures.unhidden; file_writes = λ five. c.run_check.ensures.files; link_reads = λ four. refl; link_writes = λ five. refl }
 
-pub returns-in-Replay-clause-once : goal.returns-in-Replay-clause-once
-returns-in-Replay-clause-once g c = record { file_reads = c.run_replay.ensures.read_once; file_writes = λ five. c.run_replay.ensures.files; link_reads = λ four. refl; link_writes = λ five. refl }
+pub returns-in-Replay-clause-unhidden : goal.returns-in-Replay-clause-unhidden
+returns-in-Replay-clause-unhidden g c = record { file_reads = c.run_replay.ensures.unhidden; file_writes = λ five. c.run_replay.ensures.files; link_reads = λ four. refl; link_writes = λ five. refl }
 
-pub returns-in-List-clause-once : goal.returns-in-List-clause-once
-returns-in-List-clause-once g c = record { file_reads = c.run_list.ensures.read_once; file_writes = λ five. c.run_list.ensures.files; link_reads = λ four. refl; link_writes = λ five. refl }
+pub returns-in-List-clause-unhidden : goal.returns-in-List-clause-unhidden
+returns-in-List-clause-unhidden g c = record { file_reads = c.run_list.ensures.unhidden; file_writes = λ five. c.run_list.ensures.files; link_reads = λ four. refl; link_writes = λ five. refl }
 
-pub returns-in-Gen-clause-once : goal.returns-in-Gen-clause-once
-returns-in-Gen-clause-once g c =
+pub returns-in-Gen-clause-unhidden : goal.returns-in-Gen-clause-unhidden
+returns-in-Gen-clause-unhidden g c =
     let run = c.run_gen.ensures.run in
     record { file_reads = λ three four. c.run_gen.ensures.read_faults; file_writes = gen_kept _ _ _ _ c.in-Gen.folder.now c.in-Gen.units c.in-Gen.seed run.ending _ run.status_is run.so; link_reads = λ four. refl; link_writes = λ five. refl }
 

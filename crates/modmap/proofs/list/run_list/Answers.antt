@@ -14,8 +14,8 @@ gather-requires g c = record { named = built_have_names c.in-Ok.project c.in-Ok.
 pub returns-in-Err-clause-run : goal.returns-in-Err-clause-run
 returns-in-Err-clause-run g c = told_run _ _ _ c.args.name.now _ _ (told_by c.in-Err.ending) c.in-Err.ensures.kind c.tell.ensures (file_refused _ c.args.name.now (told_by c.in-Err.ending) _ _ c.in-Err.ensures.content)
 
-pub returns-in-Err-clause-read_once : goal.returns-in-Err-clause-read_once
-returns-in-Err-clause-read_once g c = kept_told (told_by c.in-Err.ending) _ _ _ _ c.in-Err.ensures.kept c.tell.ensures
+pub returns-in-Err-clause-unhidden : goal.returns-in-Err-clause-unhidden
+returns-in-Err-clause-unhidden g c = kept_told (told_by c.in-Err.ending) _ _ _ _ c.in-Err.ensures.kept c.tell.ensures
 
 pub returns-in-Ok-report_on-clause-run : goal.returns-in-Ok-report_on-clause-run
 returns-in-Ok-report_on-clause-run g c =
@@ -37,6 +37,6 @@ returns-clause-run g c =
     (rose_since (g.F.Files.read_faults c.args.files.now) (g.F.Files.read_faults c.read_project.new.files) (g.F.Files.read_faults c.gather.new.files) c.in-Ok.ensures.read_faults)
     c.args.name.now c.in-Ok.project (ended_by c.in-Err-gather.stop) _ _ _ c.in-Ok.ensures.content c.in-Err-gather.ensures.files)
 
-pub returns-clause-read_once : goal.returns-clause-read_once
-returns-clause-read_once g c =
+pub returns-clause-unhidden : goal.returns-clause-unhidden
+returns-clause-unhidden g c =
     kept_told (ended_by c.in-Err-gather.stop) _ _ _ _ (keeps_since (ended_by c.in-Err-gather.stop) _ _ _ c.in-Ok.ensures.kept c.in-Err-gather.ensures.kept) c.tell_stop.ensures

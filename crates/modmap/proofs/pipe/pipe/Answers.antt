@@ -2,7 +2,7 @@ use Rattle.std.proofs.Common.{sym, ap, subst, ◌∙◌, true≢false}
 use Rattle.std.specs.Option.{is_some}
 use Rattle.mm_outside.specs.Told.{Told}
 use Rattle.mm_outside.proofs.ToldLemmas.{Told-map}
-use Rattle.modmap.specs.Serving.{ServesAlone}
+use Rattle.connection_core.specs.Serving.{ServesAlone}
 use Rattle.modmap.proofs.Turns.{ready_anew}
 use Rattle.modmap.proofs.pipe.pipe.Goals as goal
 

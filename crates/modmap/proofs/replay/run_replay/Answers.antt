@@ -16,5 +16,5 @@ returns-in-Ok-clause-run g c =
 pub returns-clause-run : goal.returns-clause-run
 returns-clause-run g c = report_refused _ _ _ _ _ _ _ _ (told_by c.in-Err.ending) c.in-Err.ensures.kind c.in-Err.ensures.found c.tell.ensures
 
-pub returns-clause-read_once : goal.returns-clause-read_once
-returns-clause-read_once g c = kept_told (told_by c.in-Err.ending) _ _ _ _ c.in-Err.ensures.kept c.tell.ensures
+pub returns-clause-unhidden : goal.returns-clause-unhidden
+returns-clause-unhidden g c = kept_told (told_by c.in-Err.ending) _ _ _ _ c.in-Err.ensures.kept c.tell.ensures
