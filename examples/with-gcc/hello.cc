@@ -1,0 +1,3 @@
+export module hello;
+
+export int answer() { return 42; }

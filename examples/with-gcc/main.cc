@@ -1,0 +1,3 @@
+import hello;
+
+int main() { return answer() == 42 ? 0 : 1; }
