@@ -1,6 +1,5 @@
 -- What is all there is served to its end, where nothing fails; and why a read is at fault.
 use Rattle.std.proofs.Common.{◌≡◌, ◌≢◌, ◌⊎◌, inl, inr, ℕ, ◌+◌, ◌-◌, ◌≤◌, ◌<◌, List, [], ◌∷◌, ◌++◌, length, map, take, Option, Some, None, Ok, Err, IfSome, refl, sym, ap, subst, ◌∙◌, arith}
-use Rattle.std.proofs.lemmas.Option.{none-some}
 use Rattle.std.specs.Prelude.{IsSomeAnd, String, string_bytes}
 use Rattle.std.specs.declared.alloc.Global.{Global}
 use Rattle.std.proofs.lemmas.List.{append-nil, length-append, take_all}
@@ -16,35 +15,29 @@ use Rattle.unit_registry.specs.declared.act.Act.TheVariants as act
 use Rattle.unit_registry.specs.Projects.{ProjectView}
 use Rattle.unit_registry.specs.Readings.{Declares}
 use Rattle.unit_registry.proofs.Grammars.{declared_reaches}
-use Rattle.unit_registry.proofs.Outcomes.{one_project, never_both}
+use Rattle.unit_registry.proofs.Outcomes.{one_project}
 use Rattle.connection_core.specs.declared.conn_end.ConnEnd.{ConnEnd}
 use Rattle.connection_core.specs.declared.conn_end.ConnEnd.TheVariants.{Closed, Truncated, ReadFault, WriteFault, TooLong, BatchTooLong, HistoryFull}
 use Rattle.connection_core.specs.Asking.{Block, acts}
 use Rattle.connection_core.specs.Alone.{solo}
 use Rattle.connection_core.specs.Ends.{Filled, whole_course, status_of as conn_status}
 use Rattle.modmap.specs.Commands.{Pipe, AsksFor}
-use Rattle.modmap.specs.Endings.{Ended, BadWords, OutOfMemory, CannotRead, FileTooLong, Refused, Served, Reported, Cut, WriteFailed, status_of}
-use Rattle.modmap.specs.ProjectFiles.{DeclaresProject, FindsProject, IsOfFile, IsReadAs, most_project_octets}
+use Rattle.modmap.specs.Endings.{Ended, CannotRead, Served, status_of}
+use Rattle.modmap.specs.ProjectFiles.{DeclaresProject, FindsProject}
 use Rattle.modmap.specs.Running.{Outside, ReadsProject, Pipes, served, refused, no_memory, IsWhole, HasStood, LacksFile}
 use Rattle.connection_core.specs.Serving.{ServesAlone}
 use Rattle.modmap.proofs.Answering.{acts_behind}
+use Rattle.modmap.proofs.FileLemmas.{same_some, told_project_taken}
 use Rattle.modmap.proofs.Runnings.{conn_fault}
 use Rattle.modmap.proofs.Soloing.{gone_course}
 use Rattle.modmap.proofs.Statuses.{differ, file_four}
 
 -- ---- one project
 
-pub same_some : (a b : List ℕ) → Some a ≡ Some b → a ≡ b
-same_some a b e = cc
-
--- one number is within a limit, and the same one isn't
-pub beyond : (most m n : ℕ) → m ≡ n → m ≤ most → most < n → ⊥
-beyond most m n e le lt = omega (arith, e, le, lt)
-
 pub same_project : (content : Option (List ℕ)) (project other : ProjectView) → DeclaresProject content project → DeclaresProject content other → project ≡ other
 same_project content project other p q =
     let texts : p.text ≡ q.text = same_some p.text q.text (sym p.held_is ∙ q.held_is) in
-    one_project q.text project other (declared_reaches q.text project (subst (λ t. Declares t project) texts p.declares)) (declared_reaches q.text other q.declares)
+    one_project q.text project other (declared_reaches q.text project (subst (λ t. Declares t project) texts p.says)) (declared_reaches q.text other q.says)
 
 -- ---- one end
 
@@ -115,43 +108,11 @@ told_closed project entries how (Some before) (Some now) known read write told =
 pub told_project : (failed : Type 0) (name : List ℕ) (project other : ProjectView) (before now : Option Lookup) → IsSomeAnd before (λ content. DeclaresProject (content name) project) → Told (FindsProject failed name (Ok other)) before now → other ≡ project
 told_project failed name project other None now known told = absurd known
 told_project failed name project other (Some before) None known told = absurd told.so
-told_project failed name project other (Some before) (Some now) known told = same_project (before name) other project told.so.is_read_as known
-
-pub not_refused : (failed : Type 0) (name : List ℕ) (project : ProjectView) (ended : Ended) (content : Option (List ℕ)) → (failed → ⊥) → ended ≢ OutOfMemory → DeclaresProject content project → IsReadAs failed name (Err ended) content → ⊥
-not_refused failed name project BadWords content none memory known read = read
-not_refused failed name project OutOfMemory content none memory known read = memory refl
-not_refused failed name project (CannotRead named) content none memory known read = by read.cause
-  where
-    by : (content ≡ None) ⊎ failed → ⊥
-    by (inl absent) = none-some known.text (sym absent ∙ known.held_is)
-    by (inr fault) = none fault
-not_refused failed name project (FileTooLong named) content none memory known read =
-    let texts : known.text ≡ read.text = same_some known.text read.text (sym known.held_is ∙ read.held_is) in
-    beyond most_project_octets (length known.text) (length read.text) (ap length texts) known.within read.above
-not_refused failed name project (Refused named line reason) content none memory known read =
-    let texts : known.text ≡ read.text = same_some known.text read.text (sym known.held_is ∙ read.held_is) in
-    never_both read.text project line read.cause (declared_reaches read.text project (subst (λ t. Declares t project) texts known.declares)) read.fault
-not_refused failed name project (Served how) content none memory known read = read
-not_refused failed name project (Reported report) content none memory known read = read
-not_refused failed name project (Cut report) content none memory known read = read
-not_refused failed name project WriteFailed content none memory known read = read
-
-pub told_refused : (failed : Type 0) (name : List ℕ) (project : ProjectView) (ended : Ended) (before now : Option Lookup) → (failed → ⊥) → ended ≢ OutOfMemory → IsSomeAnd before (λ content. DeclaresProject (content name) project) → Told (FindsProject failed name (Err ended)) before now → ⊥
-told_refused failed name project ended None now none memory known told = absurd known
-told_refused failed name project ended (Some before) None none memory known told = absurd told.so
-told_refused failed name project ended (Some before) (Some now) none memory known told = not_refused failed name project ended (before name) none memory known told.so.is_read_as
+told_project failed name project other (Some before) (Some now) known told = same_project (before name) other project told.so.so known
 
 module _ {L : Type 0} (outside : Outside L) (words : List (String Global)) (name : List ℕ) (entries : ℕ) (asks : AsksFor (map string_bytes words) (Pipe name entries)) where
-  not_taken : (project : ProjectView) (ended : Ended) → IsSomeAnd outside.files_before (λ content. DeclaresProject (content name) project) → HasStood outside.file_reads_before outside.file_reads_now → IsOfFile ended → ReadsProject outside name (Err ended) → status_of ended ≡ 3
-  not_taken project BadWords file no_file kind reads = absurd kind
-  not_taken project OutOfMemory file no_file kind reads = refl
-  not_taken project (CannotRead named) file no_file kind reads = absurd (told_refused (Rose outside.file_reads_before outside.file_reads_now) name project (CannotRead named) outside.files_before outside.files_now no_file (λ e. cc) file reads)
-  not_taken project (FileTooLong named) file no_file kind reads = absurd (told_refused (Rose outside.file_reads_before outside.file_reads_now) name project (FileTooLong named) outside.files_before outside.files_now no_file (λ e. cc) file reads)
-  not_taken project (Refused named line reason) file no_file kind reads = absurd (told_refused (Rose outside.file_reads_before outside.file_reads_now) name project (Refused named line reason) outside.files_before outside.files_now no_file (λ e. cc) file reads)
-  not_taken project (Served how) file no_file kind reads = absurd kind
-  not_taken project (Reported report) file no_file kind reads = absurd kind
-  not_taken project (Cut report) file no_file kind reads = absurd kind
-  not_taken project WriteFailed file no_file kind reads = absurd kind
+  not_taken : (project : ProjectView) (ended : Ended) → IsSomeAnd outside.files_before (λ content. DeclaresProject (content name) project) → HasStood outside.file_reads_before outside.file_reads_now → ReadsProject outside name (Err ended) → status_of ended ≡ 3
+  not_taken project ended file no_file reads = ap status_of (told_project_taken (Rose outside.file_reads_before outside.file_reads_now) no_file name project ended outside.files_before outside.files_now file reads)
 
   -- a run of which all is there ends with 0, or wants memory
   pub all_served : (project : ProjectView) (ended : Ended) → IsSomeAnd outside.files_before (λ content. DeclaresProject (content name) project) → IsSomeAnd (outside.octets outside.link_before) (IsWhole project entries)
@@ -161,13 +122,13 @@ module _ {L : Type 0} (outside : Outside L) (words : List (String Global)) (name
       let same : project ≡ serves.project = sym (told_project (Rose outside.file_reads_before outside.file_reads_now) name project serves.project outside.files_before outside.files_now file serves.reads) in
       let closed : how ≡ Closed = told_closed serves.project entries how (outside.octets outside.link_before) (outside.octets outside.link_now) (subst (λ some. IsSomeAnd (outside.octets outside.link_before) (IsWhole some entries)) same input) (λ e. no_read (serves.causes.read e)) (λ e. no_write (serves.causes.write e)) serves.serves in
       inl (ap status_of is ∙ ap conn_status closed)
-  all_served project ended file input no_file no_read no_write (refused kind reads keeps link) = inr (not_taken project ended file no_file kind reads)
+  all_served project ended file input no_file no_read no_write (refused kind reads keeps link) = inr (not_taken project ended file no_file reads)
   all_served project ended file input no_file no_read no_write (no_memory aside is) = inr (ap status_of is)
 
   lacks : (named : List ℕ) (before now : Option Lookup) → Told (FindsProject (Rose outside.file_reads_before outside.file_reads_now) name (Err (CannotRead named))) before now → IfSome before (λ content. content name ≡ None) ⊎ Rose outside.file_reads_before outside.file_reads_now
   lacks named None now told = inl tt
   lacks named (Some before) None told = absurd told.so
-  lacks named (Some before) (Some now) told = told.so.is_read_as.cause
+  lacks named (Some before) (Some now) told = told.so.so.cause
 
   -- why a run ends with 4
   pub fault_of_read : (ended : Ended) → Pipes outside name entries ended → status_of ended ≡ 4

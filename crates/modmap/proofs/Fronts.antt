@@ -8,10 +8,10 @@ use Rattle.std.proofs.Math.Seq.{take-append-add}
 use Rattle.mm_outside.specs.Files.{Lookup, Stores}
 use Rattle.mm_outside.specs.Told.{Told}
 use Rattle.mm_outside.proofs.ToldLemmas.{Told-map, Told-same, Told-then}
-use Rattle.export_lists.specs.Generated.{numbered}
+use Rattle.export_lists.specs.Generated.{numbered, source_path}
 use Rattle.export_lists.proofs.Loops.{taken}
 use Rattle.export_lists.specs.declared.generated.Generated.{Generated}
-use Rattle.modmap.specs.Generating.{NamedText, HoldTexts, StopsWithin, WritesAll, project_name, source_name, source_files, files_of}
+use Rattle.modmap.specs.Generating.{NamedText, HoldTexts, StopsWithin, WritesAll, project_name, source_files, files_of}
 
 -- all items, cut at a place
 whole : {X : Type 0} (xs : List X) (k : ℕ) (x : X) → slice_get xs k ≡ Some x → xs ≡ take k xs ++ x ∷ drop (k + 1) xs
@@ -26,14 +26,14 @@ second : (a b c d : ℕ) (xs ys : List ℕ) → a ∷ b ∷ xs ≡ c ∷ d ∷ y
 second a b c d xs ys e = cc
 
 -- the project file is no source
-pub not_a_source : (folder : List ℕ) (number : ℕ) → project_name folder ≢ source_name folder number
+pub not_a_source : (folder : List ℕ) (number : ℕ) → project_name folder ≢ source_path folder number
 not_a_source folder number e =
     let rests = append_cancel_left folder (codes "/project") (numbered (codes "/u") number ++ codes ".cc") e in
     let differ : 112 ≡ 117 = second 47 112 47 117 (codes "roject") (decimal number ++ codes ".cc") rests in
     omega (arith, differ)
 
 -- sources of other numbers have other names
-pub one_number : (folder : List ℕ) (m n : ℕ) → m < 2 ^ 64 → n < 2 ^ 64 → source_name folder m ≡ source_name folder n → m ≡ n
+pub one_number : (folder : List ℕ) (m n : ℕ) → m < 2 ^ 64 → n < 2 ^ 64 → source_path folder m ≡ source_path folder n → m ≡ n
 one_number folder m n small few e =
     let rests = append_cancel_left folder (numbered (codes "/u") m ++ codes ".cc") (numbered (codes "/u") n ++ codes ".cc") e in
     decimal_injective m n small few (append_cancel_right (decimal m) (decimal n) (codes ".cc") (same_rest 47 117 47 117 (decimal m ++ codes ".cc") (decimal n ++ codes ".cc") rests))
@@ -41,12 +41,12 @@ one_number folder m n small few e =
 pub project_apart : (folder : List ℕ) (number : ℕ) (texts : List (List ℕ)) → All (λ file. project_name folder ≢ file.name) (source_files folder number texts)
 project_apart folder number [] = All-nil (λ (file : NamedText). project_name folder ≢ file.name)
 project_apart folder number (text ∷ texts) =
-    All-cons (λ (file : NamedText). project_name folder ≢ file.name) (record { name = source_name folder number; text = text }) (source_files folder (suc number) texts) (not_a_source folder number) (project_apart folder (suc number) texts)
+    All-cons (λ (file : NamedText). project_name folder ≢ file.name) (record { name = source_path folder number; text = text }) (source_files folder (suc number) texts) (not_a_source folder number) (project_apart folder (suc number) texts)
 
-pub source_apart : (folder : List ℕ) (next number : ℕ) (texts : List (List ℕ)) → number + length texts ≤ next → next < 2 ^ 64 → All (λ file. source_name folder next ≢ file.name) (source_files folder number texts)
-source_apart folder next number [] le small = All-nil (λ (file : NamedText). source_name folder next ≢ file.name)
+pub source_apart : (folder : List ℕ) (next number : ℕ) (texts : List (List ℕ)) → number + length texts ≤ next → next < 2 ^ 64 → All (λ file. source_path folder next ≢ file.name) (source_files folder number texts)
+source_apart folder next number [] le small = All-nil (λ (file : NamedText). source_path folder next ≢ file.name)
 source_apart folder next number (text ∷ texts) le small =
-    All-cons (λ (file : NamedText). source_name folder next ≢ file.name) (record { name = source_name folder number; text = text }) (source_files folder (suc number) texts)
+    All-cons (λ (file : NamedText). source_path folder next ≢ file.name) (record { name = source_path folder number; text = text }) (source_files folder (suc number) texts)
     (λ e. let same = one_number folder next number small (omega (arith, le, small)) e in omega (arith, same, le))
     (source_apart folder next (suc number) texts (omega (arith, le)) small)
 
@@ -130,29 +130,29 @@ module _ (T E : Type 0) where
   files_append : (folder : List ℕ) (number : ℕ) (texts more : List (List ℕ)) → source_files folder number (texts ++ more) ≡ source_files folder number texts ++ source_files folder (number + length texts) more
   files_append folder number [] more = ap (λ n. source_files folder n more) (omega arith)
   files_append folder number (text ∷ texts) more =
-      ap (λ files. record { name = source_name folder number; text = text } ∷ files) (files_append folder (suc number) texts more ∙ ap (λ n. source_files folder (suc number) texts ++ source_files folder n more) (omega arith))
+      ap (λ files. record { name = source_path folder number; text = text } ∷ files) (files_append folder (suc number) texts more ∙ ap (λ n. source_files folder (suc number) texts ++ source_files folder n more) (omega arith))
 
   -- the sources, cut at one of them
-  cut_at : (folder : List ℕ) (front : List (List ℕ)) (text : List ℕ) (rest : List (List ℕ)) (k : ℕ) → length front ≡ k → source_files folder 0 (front ++ text ∷ rest) ≡ source_files folder 0 front ++ record { name = source_name folder k; text = text } ∷ source_files folder (suc k) rest
+  cut_at : (folder : List ℕ) (front : List (List ℕ)) (text : List ℕ) (rest : List (List ℕ)) (k : ℕ) → length front ≡ k → source_files folder 0 (front ++ text ∷ rest) ≡ source_files folder 0 front ++ record { name = source_path folder k; text = text } ∷ source_files folder (suc k) rest
   cut_at folder front text rest k e = files_append folder 0 front (text ∷ rest) ∙ ap (λ n. source_files folder 0 front ++ source_files folder n (text ∷ rest)) (omega (arith, e))
 
   taken_length : (texts : List (List ℕ)) (k : ℕ) → k < length texts → length (take k texts) ≡ k
   taken_length texts k lt = omega (arith, length-take k texts)
 
-  apart_at : (folder : List ℕ) (texts : List (List ℕ)) (k : ℕ) → k < length texts → k < 2 ^ 64 → All (λ other. source_name folder k ≢ other.name) (source_files folder 0 (take k texts))
+  apart_at : (folder : List ℕ) (texts : List (List ℕ)) (k : ℕ) → k < length texts → k < 2 ^ 64 → All (λ other. source_path folder k ≢ other.name) (source_files folder 0 (take k texts))
   apart_at folder texts k lt small = source_apart folder k 0 (take k texts) (omega (arith, taken_length texts k lt)) small
 
-  pub sources_more : (folder : List ℕ) (texts : List (List ℕ)) (k : ℕ) (text : List ℕ) (done : T) (a b c : Option Lookup) → k < length texts → k < 2 ^ 64 → slice_get texts k ≡ Some text → Told (HoldTexts (source_files folder 0 (take k texts))) a b → Told (Stores {T = T} {E = E} (Ok done) (source_name folder k) text) b c
+  pub sources_more : (folder : List ℕ) (texts : List (List ℕ)) (k : ℕ) (text : List ℕ) (done : T) (a b c : Option Lookup) → k < length texts → k < 2 ^ 64 → slice_get texts k ≡ Some text → Told (HoldTexts (source_files folder 0 (take k texts))) a b → Told (Stores {T = T} {E = E} (Ok done) (source_path folder k) text) b c
       → Told (HoldTexts (source_files folder 0 (take (k + 1) texts))) a c
-  sources_more folder texts k text done a b c lt small at = Told-then {R = HoldTexts (source_files folder 0 (take k texts))} {S = Stores {T = T} {E = E} (Ok done) (source_name folder k) text} {Q = HoldTexts (source_files folder 0 (take (k + 1) texts))} (λ x y z held stores.
+  sources_more folder texts k text done a b c lt small at = Told-then {R = HoldTexts (source_files folder 0 (take k texts))} {S = Stores {T = T} {E = E} (Ok done) (source_path folder k) text} {Q = HoldTexts (source_files folder 0 (take (k + 1) texts))} (λ x y z held stores.
       subst (λ files. HoldTexts files x z) (sym (ap (source_files folder 0) (taken texts k text at) ∙ cut_at folder (take k texts) text [] k (taken_length texts k lt)))
-      (hold_more (source_files folder 0 (take k texts)) (record { name = source_name folder k; text = text }) done x y z (apart_at folder texts k lt small) held stores))
+      (hold_more (source_files folder 0 (take k texts)) (record { name = source_path folder k; text = text }) done x y z (apart_at folder texts k lt small) held stores))
 
-  pub sources_stop : (folder : List ℕ) (texts : List (List ℕ)) (k : ℕ) (text : List ℕ) (failed : E) (a b c : Option Lookup) → k < length texts → k < 2 ^ 64 → slice_get texts k ≡ Some text → Told (HoldTexts (source_files folder 0 (take k texts))) a b → Told (Stores {T = T} {E = E} (Err failed) (source_name folder k) text) b c
+  pub sources_stop : (folder : List ℕ) (texts : List (List ℕ)) (k : ℕ) (text : List ℕ) (failed : E) (a b c : Option Lookup) → k < length texts → k < 2 ^ 64 → slice_get texts k ≡ Some text → Told (HoldTexts (source_files folder 0 (take k texts))) a b → Told (Stores {T = T} {E = E} (Err failed) (source_path folder k) text) b c
       → Told (StopsWithin (source_files folder 0 texts)) a c
-  sources_stop folder texts k text failed a b c lt small at = Told-then {R = HoldTexts (source_files folder 0 (take k texts))} {S = Stores {T = T} {E = E} (Err failed) (source_name folder k) text} {Q = StopsWithin (source_files folder 0 texts)} (λ x y z held stores.
+  sources_stop folder texts k text failed a b c lt small at = Told-then {R = HoldTexts (source_files folder 0 (take k texts))} {S = Stores {T = T} {E = E} (Err failed) (source_path folder k) text} {Q = StopsWithin (source_files folder 0 texts)} (λ x y z held stores.
       subst (λ files. StopsWithin files x z) (sym (ap (source_files folder 0) (whole texts k text at) ∙ cut_at folder (take k texts) text (drop (k + 1) texts) k (taken_length texts k lt)))
-      (stops_at (source_files folder 0 (take k texts)) (record { name = source_name folder k; text = text }) (source_files folder (suc k) (drop (k + 1) texts)) failed x y z (apart_at folder texts k lt small) held stores))
+      (stops_at (source_files folder 0 (take k texts)) (record { name = source_path folder k; text = text }) (source_files folder (suc k) (drop (k + 1) texts)) failed x y z (apart_at folder texts k lt small) held stores))
 
 -- no file was written yet
 pub none_yet : (folder : List ℕ) (texts : List (List ℕ)) (a : Option Lookup) → Told (HoldTexts (source_files folder 0 (take 0 texts))) a a

@@ -25,7 +25,8 @@ use Rattle.mm_outside.specs.declared.files.ReadAllError.TheVariants as errors
 use Rattle.modmap.specs.declared.unit_files.Stop.{Stop}
 use Rattle.modmap.specs.Endings.{Ended, OutOfMemory, CannotRead, FileTooLong}
 use Rattle.modmap.specs.ProjectFiles.{KeepsReads, at_file, for_memory}
-use Rattle.modmap.specs.ListRuns.{Fit, HoldsWithin, HoldsCmi, HoldsSource, HoldsBuilt, HoldUnits, Stay, most_source_octets, most_cmi_octets, most_by, file_by, cmi_file, RefusesFile, no_memory, too_long, RefusesUnit, as_file, as_cmi, IsNoCmiOf, ended_by, FileSo, SourceSo, TextSo, CmiSo, StopsAt, IsDeclared, BuiltHaveNames, has_failed, ended_at, other_unit}
+use Rattle.modmap.specs.FileReadings.{Stay}
+use Rattle.modmap.specs.ListRuns.{Fit, HoldsWithin, HoldsCmi, HoldsSource, HoldsBuilt, HoldUnits, most_source_octets, most_cmi_octets, most_by, file_by, cmi_file, RefusesFile, no_memory, too_long, RefusesUnit, as_file, as_cmi, IsNoCmiOf, ended_by, FileSo, SourceSo, TextSo, CmiSo, StopsAt, IsDeclared, BuiltHaveNames, has_failed, ended_at, other_unit}
 use Rattle.modmap.specs.declared.unit_files.Fault.TheVariants as faults
 use Rattle.export_lists.specs.declared.outcome.Outcome.{Outcome}
 use Rattle.export_lists.specs.CmiFaults.{IsCmiText}

@@ -9,6 +9,7 @@ pub mod PrintLemmas
 pub mod Statuses
 pub mod Runnings
 pub mod WordLemmas
+pub mod FileLemmas
 pub mod Complete
 pub mod Fronts
 pub mod AskedLemmas

@@ -10,7 +10,8 @@ use Rattle.modmap.specs.declared.unit_files.Stop.TheVariants as stops
 use Rattle.modmap.specs.declared.unit_files.Fault.TheVariants as faults
 use Rattle.modmap.specs.Endings.{Ended, OutOfMemory, Output, Ends, Tells}
 use Rattle.modmap.specs.ProjectFiles.{FindsProject, IsOfFile}
-use Rattle.modmap.specs.ListRuns.{Stay, HoldUnits, HoldsProject, RefusesFile, no_memory, unreadable, too_long, RefusesUnit, as_file, as_cmi, StopsAt, RefusesList, ReportsOn, ListsSo, reported, refused, ended_by}
+use Rattle.modmap.specs.FileReadings.{Stay}
+use Rattle.modmap.specs.ListRuns.{HoldUnits, HoldsProject, RefusesFile, no_memory, unreadable, too_long, RefusesUnit, as_file, as_cmi, StopsAt, RefusesList, ReportsOn, ListsSo, reported, refused, ended_by}
 use Rattle.modmap.proofs.Gatherings.{Stay-map}
 use Rattle.modmap.proofs.PrintLemmas.{ends_as, ends_map}
 
@@ -43,14 +44,14 @@ later_stop late since so project content ended stop = record { unit = stop.unit;
 pub unit_stops : (early late since : Type 0) → (late → since) → (name : List ℕ) (project : ProjectView) (ended : Ended) (a b c : Option Lookup) → Told (FindsProject early name (Ok project)) a b → Told (Stay (λ content. StopsAt late project content ended)) b c → Told (Stay (RefusesList since name ended)) a c
 unit_stops early late since so name project ended a b c = Told-then {R = FindsProject early name (Ok project)} {S = Stay (λ content. StopsAt late project content ended)} {Q = Stay (RefusesList since name ended)} (λ x y z found stay. record {
   same = stay.same ∙ found.same;
-  so = inr (project, found.is_read_as, later_stop late since so project x ended (subst (λ content. StopsAt late project content ended) found.same stay.so));
+  so = inr (project, found.so, later_stop late since so project x ended (subst (λ content. StopsAt late project content ended) found.same stay.so));
 })
 
 -- all files are taken
 pub all_taken : (early : Type 0) (name : List ℕ) (project : ProjectView) (sources : List (List ℕ)) (built : List Cmi) (a b c : Option Lookup) → Told (FindsProject early name (Ok project)) a b → Told (Stay (λ content. HoldUnits project content (unit_count project) sources built)) b c → Told (Stay (HoldsProject name project sources built)) a c
 all_taken early name project sources built a b c = Told-then {R = FindsProject early name (Ok project)} {S = Stay (λ content. HoldUnits project content (unit_count project) sources built)} {Q = Stay (HoldsProject name project sources built)} (λ x y z found stay. record {
   same = stay.same ∙ found.same;
-  so = record { declares = found.is_read_as; holds = subst (λ content. HoldUnits project content (unit_count project) sources built) found.same stay.so };
+  so = record { declares = found.so; holds = subst (λ content. HoldUnits project content (unit_count project) sources built) found.same stay.so };
 })
 
 -- ---- the run
@@ -73,4 +74,4 @@ module _ (failed : Type 0) (a b : Option Lookup) (name : List ℕ) (output : Out
 
 -- the project file isn't taken
 pub file_refused : (failed : Type 0) (name : List ℕ) (ended : Ended) (a b : Option Lookup) → Told (FindsProject failed name (Err ended)) a b → Told (Stay (RefusesList failed name ended)) a b
-file_refused failed name ended a b = Told-map {R = FindsProject failed name (Err ended)} {S = Stay (RefusesList failed name ended)} (λ x y found. record { same = found.same; so = inl found.is_read_as })
+file_refused failed name ended a b = Told-map {R = FindsProject failed name (Err ended)} {S = Stay (RefusesList failed name ended)} (λ x y found. record { same = found.same; so = inl found.so })

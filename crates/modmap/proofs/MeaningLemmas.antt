@@ -77,7 +77,7 @@ over_trace : (failed : Type 0) (reports : ProjectView → Trace → Report) (pro
     → IfSome a (λ content. IsOverTrace reports content project_name trace_name (reports project trace))
 over_trace failed reports project_name trace_name project trace None b first second = tt
 over_trace failed reports project_name trace_name project trace (Some x) None first second = absurd first.so
-over_trace failed reports project_name trace_name project trace (Some x) (Some y) first second = record { project = project; trace = trace; project_file = first.so.is_read_as; trace_file = second.so.is_read_as; report_is = refl }
+over_trace failed reports project_name trace_name project trace (Some x) (Some y) first second = record { project = project; trace = trace; project_file = first.so.so; trace_file = second.so.so; report_is = refl }
 
 -- ---- the end of a link
 
@@ -142,9 +142,9 @@ module _ {L : Type 0} (outside : Outside L) where
       → IfSome outside.files_before (λ content. IsReadAs failed project (Err ended) (content project) ⊎ IsTraceReadAs failed trace (Err ended) (content trace))
   report_six reports project trace ended (ReportsSo.reported found heard first second ends) six = absurd (report_never (reports found heard) ended 6 ends (λ e. omega (arith, e)) (λ e. omega (arith, e)) (λ e. omega (arith, e)) six)
   report_six reports project trace ended (ReportsSo.refused kind (Refuses.project_refused told)) six =
-      told_before {R = FindsProject failed project (Err ended)} (λ content. IsReadAs failed project (Err ended) (content project) ⊎ IsTraceReadAs failed trace (Err ended) (content trace)) (λ x y found. inl found.is_read_as) outside.files_before outside.files_now told
+      told_before {R = FindsProject failed project (Err ended)} (λ content. IsReadAs failed project (Err ended) (content project) ⊎ IsTraceReadAs failed trace (Err ended) (content trace)) (λ x y found. inl found.so) outside.files_before outside.files_now told
   report_six reports project trace ended (ReportsSo.refused kind (Refuses.trace_refused found first told)) six =
-      told_before {R = FindsTrace failed trace (Err ended)} (λ content. IsReadAs failed project (Err ended) (content project) ⊎ IsTraceReadAs failed trace (Err ended) (content trace)) (λ x y found. inr found.is_read_as) outside.files_before outside.files_now told
+      told_before {R = FindsTrace failed trace (Err ended)} (λ content. IsReadAs failed project (Err ended) (content project) ⊎ IsTraceReadAs failed trace (Err ended) (content trace)) (λ x y found. inr found.so) outside.files_before outside.files_now told
   report_six reports project trace ended (ReportsSo.no_memory told is) six = absurd (differ (status_of ended) 3 6 (λ e. omega (arith, e)) (ap status_of is) six)
 
   pipe_six : (project : List ℕ) (entries : ℕ) (ended : Ended) → Pipes outside project entries ended → status_of ended ≡ 6 → IfSome outside.files_before (λ content. IsReadAs failed project (Err ended) (content project))
@@ -158,7 +158,7 @@ module _ {L : Type 0} (outside : Outside L) where
       six_not TooLong e = omega (arith, e)
       six_not BatchTooLong e = omega (arith, e)
       six_not (HistoryFull m n) e = omega (arith, e)
-  pipe_six project entries ended (refused kind reads keeps link) six = told_before {R = FindsProject failed project (Err ended)} (λ content. IsReadAs failed project (Err ended) (content project)) (λ x y found. found.is_read_as) outside.files_before outside.files_now reads
+  pipe_six project entries ended (refused kind reads keeps link) six = told_before {R = FindsProject failed project (Err ended)} (λ content. IsReadAs failed project (Err ended) (content project)) (λ x y found. found.so) outside.files_before outside.files_now reads
   pipe_six project entries ended (no_memory aside is) six = absurd (differ (status_of ended) 3 6 (λ e. omega (arith, e)) (ap status_of is) six)
 
   list_six : (name : List ℕ) (ended : Ended) → ListsSo failed outside.files_before outside.files_now name ended → status_of ended ≡ 6 → IfSome outside.files_before (λ content. RefusesList failed name ended content)
@@ -218,7 +218,7 @@ module _ {L : Type 0} (outside : Outside L) where
           entries = entries;
           asks = subst (λ some. AsksFor (map string_bytes words) some) is asks;
           project = project;
-          declared = told_before {R = FindsProject failed name (Ok project)} (λ content. DeclaresProject (content name) project) (λ x y found. found.is_read_as) outside.files_before outside.files_now reads;
+          declared = told_before {R = FindsProject failed name (Ok project)} (λ content. DeclaresProject (content name) project) (λ x y found. found.so) outside.files_before outside.files_now reads;
           too_much = Told-map {R = ServesAlone project entries how} {S = ReadsTooMuch project entries} (λ x y s. full_at project entries how (sym status ∙ nine) x y s) serves;
         }))
 

@@ -12,7 +12,8 @@ use Rattle.histories.specs.Histories.{IsLegal, IsFirstFault}
 use Rattle.histories.proofs.Legality.{none_if_legal, some_if_illegal}
 use Rattle.trace_text.specs.declared.trace.Trace.{Trace}
 use Rattle.modmap.specs.Endings.{Report, Ended, BadWords, OutOfMemory, CannotRead, FileTooLong, Refused, Served, Reported, Cut, WriteFailed, Output, Ends, Issues, Tells, status_of}
-use Rattle.modmap.specs.ProjectFiles.{FindsProject, IsOfFile, IsUnreadable}
+use Rattle.modmap.specs.FileReadings.{IsUnreadable}
+use Rattle.modmap.specs.ProjectFiles.{FindsProject, IsOfFile}
 use Rattle.modmap.specs.TraceFiles.{FindsTrace, IsTraceReadAs}
 use Rattle.modmap.proofs.PrintLemmas.{ends_as, ends_map}
 use Rattle.modmap.specs.Reports.{Refuses, ReportsSo, FindsBoth, fault_of, by_fault, illegal_report}
@@ -47,12 +48,12 @@ trace_since failed since later name (Err WriteFailed) held h = h
 module _ (failed late since : Type 0) (project_name trace_name : List ℕ) (a b c : Option Lookup) where
   -- the project that was read first, over both reads
   project_first : (project : ProjectView) (result : Result Trace Ended) → Told (FindsProject failed project_name (Ok project)) a b → Told (FindsTrace late trace_name result) b c → Told (FindsProject since project_name (Ok project)) a c
-  project_first project result = Told-then {R = FindsProject failed project_name (Ok project)} {S = FindsTrace late trace_name result} {Q = FindsProject since project_name (Ok project)} (λ x y z p q. record { is_read_as = p.is_read_as; same = q.same ∙ p.same })
+  project_first project result = Told-then {R = FindsProject failed project_name (Ok project)} {S = FindsTrace late trace_name result} {Q = FindsProject since project_name (Ok project)} (λ x y z p q. record { so = p.so; same = q.same ∙ p.same })
 
   -- the trace that was read second, over both reads
   trace_second : (late → since) → (project : ProjectView) (result : Result Trace Ended) → Told (FindsProject failed project_name (Ok project)) a b → Told (FindsTrace late trace_name result) b c → Told (FindsTrace since trace_name result) a c
   trace_second later project result = Told-then {R = FindsProject failed project_name (Ok project)} {S = FindsTrace late trace_name result} {Q = FindsTrace since trace_name result} (λ x y z p q. record {
-    is_read_as = trace_since late since later trace_name result (x trace_name) (subst (λ (content : Lookup). IsTraceReadAs late trace_name result (content trace_name)) p.same q.is_read_as);
+    so = trace_since late since later trace_name result (x trace_name) (subst (λ (content : Lookup). IsTraceReadAs late trace_name result (content trace_name)) p.same q.so);
     same = q.same ∙ p.same;
   })
 

@@ -1,6 +1,5 @@
 -- What holds of a run, by the task that its words ask for.
 use Rattle.std.proofs.Common.{◌≡◌, ◌≢◌, ◌⊎◌, inl, inr, ℕ, ◌≤◌, List, length, map, Option, Some, None, Err, IfSome, refl, sym, ap, subst, ◌∙◌, arith}
-use Rattle.std.proofs.lemmas.Option.{none-some}
 use Rattle.std.specs.Prelude.{IsSomeAnd, String, string_bytes}
 use Rattle.std.specs.declared.alloc.Global.{Global}
 use Rattle.mm_outside.specs.Causes.{Rose}
@@ -9,19 +8,18 @@ use Rattle.mm_outside.specs.Told.{Told}
 use Rattle.mm_outside.proofs.ToldLemmas.{Told-map}
 use Rattle.unit_registry.specs.Projects.{ProjectView}
 use Rattle.trace_text.specs.declared.trace.Trace.{Trace}
-use Rattle.trace_text.specs.Faults.{IsTraceText}
-use Rattle.trace_text.proofs.Outcomes.{never_both}
 use Rattle.modmap.specs.declared.verb.Verb.{Verb}
 use Rattle.modmap.specs.declared.verb.Verb.TheVariants as verb
 use Rattle.modmap.specs.Askings.{fewest_entries, longest_folder, most_units}
 use Rattle.modmap.specs.Commands.{Task, Pipe, Check, Replay, ListUnits, Generate, AsksAs, AsksFor, AsksNothing, usual, counted}
-use Rattle.modmap.specs.Endings.{Report, Ended, BadWords, OutOfMemory, CannotRead, FileTooLong, Refused, Served, Reported, Cut, WriteFailed, HasSinkCause, Output, Ends, status_of}
-use Rattle.modmap.specs.ProjectFiles.{DeclaresProject, FindsProject, IsOfFile}
+use Rattle.modmap.specs.Endings.{Report, Ended, OutOfMemory, CannotRead, HasSinkCause, Output, Ends, status_of}
+use Rattle.modmap.specs.ProjectFiles.{DeclaresProject, FindsProject}
 use Rattle.modmap.specs.Reports.{Refuses, ReportsSo, check_report}
 use Rattle.modmap.specs.Replays.{replay_report}
 use Rattle.modmap.specs.Running.{Outside, AreBothThere, AreUnitsThere, AsksOverTrace, AsksToWrite, DoesTask, IsAllThere, IsReadBy, IsReport, IsSparedBy, KeepsOthers, LacksFile, NothingHinders, to_serve, to_report, to_list, to_write}
-use Rattle.modmap.specs.TraceFiles.{FindsTrace, HoldsTrace, IsTraceReadAs}
-use Rattle.modmap.proofs.Complete.{all_served, beyond, fault_of_read, same_some, told_refused}
+use Rattle.modmap.specs.TraceFiles.{FindsTrace, HoldsTrace}
+use Rattle.modmap.proofs.Complete.{all_served, fault_of_read}
+use Rattle.modmap.proofs.FileLemmas.{told_project_taken, told_trace_taken}
 use Rattle.modmap.proofs.Forms.{one_task}
 use Rattle.modmap.proofs.AskedLemmas.{folder_bound}
 use Rattle.modmap.proofs.Reporting.{report_stays}
@@ -64,32 +62,6 @@ pipe_bounds words name entries asks = bounded words (Pipe name entries) asks
 pub gen_bounds : (words : List (List ℕ)) (folder : List ℕ) (units seed : ℕ) → AsksFor words (Generate folder units seed) → (length folder ≤ longest_folder) × (units ≤ most_units)
 gen_bounds words folder units seed asks = bounded words (Generate folder units seed) asks
 
--- ---- a trace that is there
-
-trace_there : (failed : Type 0) (name : List ℕ) (trace : Trace) (ended : Ended) (held : Option (List ℕ)) → (failed → ⊥) → ended ≢ OutOfMemory → HoldsTrace held trace → IsTraceReadAs failed name (Err ended) held → ⊥
-trace_there failed name trace BadWords held none memory known read = read
-trace_there failed name trace OutOfMemory held none memory known read = memory refl
-trace_there failed name trace (CannotRead named) held none memory known read = by read.cause
-  where
-    by : (held ≡ None) ⊎ failed → ⊥
-    by (inl absent) = none-some known.text (sym absent ∙ known.held_is)
-    by (inr fault) = none fault
-trace_there failed name trace (FileTooLong named) held none memory known read =
-    let texts : known.text ≡ read.text = same_some known.text read.text (sym known.held_is ∙ read.held_is) in
-    beyond 67108864 (length known.text) (length read.text) (ap length texts) known.within read.above
-trace_there failed name trace (Refused named line reason) held none memory known read =
-    let texts : known.text ≡ read.text = same_some known.text read.text (sym known.held_is ∙ read.held_is) in
-    never_both read.text trace.workers trace.limit trace.entries line read.cause (subst (λ t. IsTraceText t trace.workers trace.limit trace.entries) texts known.is_trace) read.fault
-trace_there failed name trace (Served how) held none memory known read = read
-trace_there failed name trace (Reported report) held none memory known read = read
-trace_there failed name trace (Cut report) held none memory known read = read
-trace_there failed name trace WriteFailed held none memory known read = read
-
-told_there : (failed : Type 0) (name : List ℕ) (trace : Trace) (ended : Ended) (before now : Option Lookup) → (failed → ⊥) → ended ≢ OutOfMemory → IsSomeAnd before (λ content. HoldsTrace (content name) trace) → Told (FindsTrace failed name (Err ended)) before now → ⊥
-told_there failed name trace ended None now none memory known told = absurd known
-told_there failed name trace ended (Some before) None none memory known told = absurd told.so
-told_there failed name trace ended (Some before) (Some now) none memory known told = trace_there failed name trace ended (before name) none memory known told.so.is_read_as
-
 -- ---- a report
 
 module _ (failed : Type 0) (before now : Option Lookup) (reports : ProjectView → Trace → Report) (project_name trace_name : List ℕ) where
@@ -105,7 +77,7 @@ module _ (failed : Type 0) (before now : Option Lookup) (reports : ProjectView �
       by : (a b : Option Lookup) → Told (FindsProject failed project_name (Err (CannotRead named))) a b → (IfSome a (λ content. content project_name ≡ None) ⊎ IfSome a (λ content. content trace_name ≡ None)) ⊎ failed
       by None b told = inl (inl tt)
       by (Some a) None told = absurd told.so
-      by (Some a) (Some b) told = cause told.so.is_read_as.cause
+      by (Some a) (Some b) told = cause told.so.so.cause
         where
           cause : (a project_name ≡ None) ⊎ failed → ((a project_name ≡ None) ⊎ (a trace_name ≡ None)) ⊎ failed
           cause (inl absent) = inl (inl absent)
@@ -115,7 +87,7 @@ module _ (failed : Type 0) (before now : Option Lookup) (reports : ProjectView �
       by : (a b : Option Lookup) → Told (FindsTrace failed trace_name (Err (CannotRead named))) a b → (IfSome a (λ content. content project_name ≡ None) ⊎ IfSome a (λ content. content trace_name ≡ None)) ⊎ failed
       by None b told = inl (inl tt)
       by (Some a) None told = absurd told.so
-      by (Some a) (Some b) told = cause told.so.is_read_as.cause
+      by (Some a) (Some b) told = cause told.so.so.cause
         where
           cause : (a trace_name ≡ None) ⊎ failed → ((a project_name ≡ None) ⊎ (a trace_name ≡ None)) ⊎ failed
           cause (inl absent) = inl (inr absent)
@@ -134,25 +106,17 @@ module _ (failed : Type 0) (before now : Option Lookup) (reports : ProjectView �
   report_five ended b n (ReportsSo.no_memory told is) cause five = absurd (apart (status_of ended) 3 5 (λ e. omega (arith, e)) (ap status_of is) five)
 
   module _ (project : ProjectView) (trace : Trace) (first : IsSomeAnd before (λ content. DeclaresProject (content project_name) project)) (second : IsSomeAnd before (λ content. HoldsTrace (content trace_name) trace)) (none : failed → ⊥) where
-    not_refused : (ended : Ended) → ended ≢ OutOfMemory → Refuses failed before now project_name trace_name ended → ⊥
-    not_refused ended memory (Refuses.project_refused told) = told_refused failed project_name project ended before now none memory first told
-    not_refused ended memory (Refuses.trace_refused other told_first told) = told_there failed trace_name trace ended before now none memory second told
+    only_memory : (ended : Ended) → Refuses failed before now project_name trace_name ended → ended ≡ OutOfMemory
+    only_memory ended (Refuses.project_refused told) = told_project_taken failed none project_name project ended before now first told
+    only_memory ended (Refuses.trace_refused other told_first told) = told_trace_taken failed none trace_name trace ended before now second told
 
-    refused_three : (ended : Ended) → IsOfFile ended → Refuses failed before now project_name trace_name ended → status_of ended ≡ 3
-    refused_three BadWords kind h = absurd kind
-    refused_three OutOfMemory kind h = refl
-    refused_three (CannotRead named) kind h = absurd (not_refused (CannotRead named) (λ e. cc) h)
-    refused_three (FileTooLong named) kind h = absurd (not_refused (FileTooLong named) (λ e. cc) h)
-    refused_three (Refused named line reason) kind h = absurd (not_refused (Refused named line reason) (λ e. cc) h)
-    refused_three (Served how) kind h = absurd kind
-    refused_three (Reported report) kind h = absurd kind
-    refused_three (Cut report) kind h = absurd kind
-    refused_three WriteFailed kind h = absurd kind
+    refused_three : (ended : Ended) → Refuses failed before now project_name trace_name ended → status_of ended ≡ 3
+    refused_three ended h = ap status_of (only_memory ended h)
 
     -- where both files are there, and no write fails, it is printed
     report_printed : (ended : Ended) (b n : ℕ) → (Rose b n → ⊥) → HasSinkCause ended b n → ReportsSo failed before now reports project_name trace_name ended → (status_of ended ≡ 0) ⊎ ((status_of ended ≡ 1) ⊎ (status_of ended ≡ 3))
     report_printed ended b n stood cause (ReportsSo.reported other found told_first told ends) = report_whole (reports other found) ended b n ends cause stood
-    report_printed ended b n stood cause (ReportsSo.refused kind refuses) = inr (inr (refused_three ended kind refuses))
+    report_printed ended b n stood cause (ReportsSo.refused kind refuses) = inr (inr (refused_three ended refuses))
     report_printed ended b n stood cause (ReportsSo.no_memory told is) = inr (inr (ap status_of is))
 
 -- ---- tasks
@@ -164,9 +128,6 @@ module _ {L : Type 0} (outside : Outside L) where
   abbrev writes_failed : Type 0
   writes_failed = Rose outside.file_writes_before outside.file_writes_now
 
-  abbrev writes_kept : Type 0
-  writes_kept = outside.file_writes_now ≡ outside.file_writes_before
-
   pub ends_same : (task other : Task) (output : Output) (status : ℕ) → other ≡ task → Ends (DoesTask outside task) output status → Ends (DoesTask outside other) output status
   ends_same task other output status same run = subst (λ some. Ends (DoesTask outside some) output status) (sym same) run
 
@@ -175,7 +136,7 @@ module _ {L : Type 0} (outside : Outside L) where
   task_two (Check project trace) ended h = report_two files_failed outside.files_before outside.files_now check_report project trace ended h.reports_so
   task_two (Replay project trace) ended h = report_two files_failed outside.files_before outside.files_now replay_report project trace ended h.reports_so
   task_two (ListUnits project) ended h = list_two files_failed outside.files_before outside.files_now project ended h.lists_so
-  task_two (Generate folder units seed) ended h = gen_never writes_failed writes_kept outside.files_before outside.files_now folder units seed ended 2 h.generates_so (λ e. omega (arith, e)) (λ e. omega (arith, e)) (λ e. omega (arith, e))
+  task_two (Generate folder units seed) ended h = gen_never outside.file_writes_before outside.file_writes_now outside.files_before outside.files_now folder units seed ended 2 h.generates_so (λ e. omega (arith, e)) (λ e. omega (arith, e)) (λ e. omega (arith, e))
 
   -- only a report ends with 1
   pub task_one : (task : Task) (ended : Ended) → DoesTask outside task ended → status_of ended ≡ 1 → IsReport task
@@ -183,7 +144,7 @@ module _ {L : Type 0} (outside : Outside L) where
   task_one (Check project trace) ended h one = tt
   task_one (Replay project trace) ended h one = tt
   task_one (ListUnits project) ended h one = tt
-  task_one (Generate folder units seed) ended h one = gen_never writes_failed writes_kept outside.files_before outside.files_now folder units seed ended 1 h.generates_so (λ e. omega (arith, e)) (λ e. omega (arith, e)) (λ e. omega (arith, e)) one
+  task_one (Generate folder units seed) ended h one = gen_never outside.file_writes_before outside.file_writes_now outside.files_before outside.files_now folder units seed ended 1 h.generates_so (λ e. omega (arith, e)) (λ e. omega (arith, e)) (λ e. omega (arith, e)) one
 
   pub task_untouched : (task : Task) (ended : Ended) (status : ℕ) → status ≡ status_of ended → DoesTask outside task ended → (status ≡ 2) ⊎ ((status ≡ 3) ⊎ (status ≡ 6)) → outside.link_now ≡ outside.link_before
   task_untouched (Pipe project entries) ended status is h some = untouched outside project entries ended status is h some
@@ -197,7 +158,7 @@ module _ {L : Type 0} (outside : Outside L) where
   task_five (Check project trace) ended b n h cause five = inr (inr (report_five files_failed outside.files_before outside.files_now check_report project trace ended b n h.reports_so cause five))
   task_five (Replay project trace) ended b n h cause five = inr (inr (report_five files_failed outside.files_before outside.files_now replay_report project trace ended b n h.reports_so cause five))
   task_five (ListUnits project) ended b n h cause five = inr (inr (list_five files_failed outside.files_before outside.files_now project ended b n h.lists_so cause five))
-  task_five (Generate folder units seed) ended b n h cause five = inr (gen_five writes_failed writes_kept outside.files_before outside.files_now folder units seed ended b n h.generates_so cause five)
+  task_five (Generate folder units seed) ended b n h cause five = inr (gen_five outside.file_writes_before outside.file_writes_now outside.files_before outside.files_now folder units seed ended b n h.generates_so cause five)
 
   spares : (P : List ℕ → Type 0) → Told (λ (old new : Lookup). new ≡ old) outside.files_before outside.files_now → Told (λ (old new : Lookup). (name : List ℕ) → P name → new name ≡ old name) outside.files_before outside.files_now
   spares P told = Told-map (λ x y same. λ name spared. ap (λ (content : Lookup). content name) same) told
@@ -208,7 +169,7 @@ module _ {L : Type 0} (outside : Outside L) where
   task_spares (Check project trace) ended h = spares (IsSparedBy (Check project trace)) (report_stays files_failed outside.files_before outside.files_now project trace check_report ended h.reports_so)
   task_spares (Replay project trace) ended h = spares (IsSparedBy (Replay project trace)) (report_stays files_failed outside.files_before outside.files_now project trace replay_report ended h.reports_so)
   task_spares (ListUnits project) ended h = spares (IsSparedBy (ListUnits project)) (list_stays files_failed outside.files_before outside.files_now project ended h.lists_so)
-  task_spares (Generate folder units seed) ended h = gen_others writes_failed writes_kept outside.files_before outside.files_now folder units seed ended h.generates_so
+  task_spares (Generate folder units seed) ended h = gen_others outside.file_writes_before outside.file_writes_now outside.files_before outside.files_now folder units seed ended h.generates_so
 
   module _ (words : List (String Global)) where
     -- a file that is absent, or a read that failed
@@ -229,7 +190,7 @@ module _ {L : Type 0} (outside : Outside L) where
         by : LacksFile words outside.files_before ⊎ files_failed → LacksFile words outside.files_before ⊎ (files_failed ⊎ Rose outside.link_reads_before outside.link_reads_now)
         by (inl lacks) = inl lacks
         by (inr rose) = inr (inl rose)
-    task_four (Generate folder units seed) ended asks h four = absurd (gen_never writes_failed writes_kept outside.files_before outside.files_now folder units seed ended 4 h.generates_so (λ e. omega (arith, e)) (λ e. omega (arith, e)) (λ e. omega (arith, e)) four)
+    task_four (Generate folder units seed) ended asks h four = absurd (gen_never outside.file_writes_before outside.file_writes_now outside.files_before outside.files_now folder units seed ended 4 h.generates_so (λ e. omega (arith, e)) (λ e. omega (arith, e)) (λ e. omega (arith, e)) four)
 
     -- the files that the words don't ask to write are as they were
     pub task_keeps : (task : Task) (ended : Ended) → AsksFor (map string_bytes words) task → DoesTask outside task ended → Told (KeepsOthers words) outside.files_before outside.files_now
@@ -279,7 +240,7 @@ module _ {L : Type 0} (outside : Outside L) where
         → (writes_failed → ⊥) → (Rose b n → ⊥) → (status_of ended ≡ 0) ⊎ (status_of ended ≡ 3)
     task_generates task ended b n asks h cause there no_file no_fault =
         let so : DoesTask outside (Generate there.folder there.units there.seed) ended = subst (λ some. DoesTask outside some ended) (one_task (map string_bytes words) task (Generate there.folder there.units there.seed) asks there.asks) h in
-        gen_whole writes_failed writes_kept outside.files_before outside.files_now there.folder there.units there.seed ended b n no_file no_fault so.generates_so cause
+        gen_whole outside.file_writes_before outside.file_writes_now outside.files_before outside.files_now there.folder there.units there.seed ended b n no_file no_fault so.generates_so cause
 
     -- where nothing hinders a task, it's done whole
     pub task_whole : (output : Output) (task : Task) (ended : Ended) (status : ℕ) → AsksFor (map string_bytes words) task → status ≡ status_of ended → DoesTask outside task ended → HasSinkCause ended output.faults_before output.faults_now

@@ -14,9 +14,11 @@ use Rattle.export_lists.proofs.CmiLaws.{no_fault, one_cmi}
 use Rattle.modmap.specs.Commands.{ListUnits, AsksFor}
 use Rattle.modmap.specs.Endings.{Ended, BadWords, OutOfMemory, CannotRead, FileTooLong, Refused, Served, Reported, Cut, WriteFailed, HasSinkCause, status_of}
 use Rattle.modmap.specs.ProjectFiles.{DeclaresProject, IsReadAs}
-use Rattle.modmap.specs.ListRuns.{HoldsWithin, HoldUnits, HoldsAll, IsNoCmiOf, Stay, StopsAt, ListsSo, reported, refused, no_memory, unreadable, too_long, RefusesList, RefusesUnit, as_file, as_cmi, not_a_cmi, other_unit, file_by, most_by, unit_file, most_cmi_octets}
+use Rattle.modmap.specs.FileReadings.{Stay}
+use Rattle.modmap.specs.ListRuns.{HoldsWithin, HoldUnits, HoldsAll, IsNoCmiOf, StopsAt, ListsSo, reported, refused, no_memory, unreadable, too_long, RefusesList, RefusesUnit, as_file, as_cmi, not_a_cmi, other_unit, file_by, most_by, unit_file, most_cmi_octets}
 use Rattle.modmap.specs.Running.{LacksFile}
-use Rattle.modmap.proofs.Complete.{beyond, not_refused, same_project, same_some}
+use Rattle.modmap.proofs.Complete.{same_project}
+use Rattle.modmap.proofs.FileLemmas.{beyond, project_taken, same_some}
 use Rattle.modmap.proofs.Statuses.{differ, file_never, report_cut, report_never, report_whole}
 
 module _ (failed : Type 0) (before now : Option Lookup) (name : List ℕ) where
@@ -86,17 +88,6 @@ module _ (failed : Type 0) (before now : Option Lookup) (name : List ℕ) where
 -- ---- files that are there
 
 module _ (failed : Type 0) (none : failed → ⊥) where
-  project_taken : (name : List ℕ) (project : ProjectView) (ended : Ended) (held : Option (List ℕ)) → DeclaresProject held project → IsReadAs failed name (Err ended) held → ended ≡ OutOfMemory
-  project_taken name project BadWords held known read = absurd read
-  project_taken name project OutOfMemory held known read = refl
-  project_taken name project (CannotRead named) held known read = absurd (not_refused failed name project (CannotRead named) held none (λ e. cc) known read)
-  project_taken name project (FileTooLong named) held known read = absurd (not_refused failed name project (FileTooLong named) held none (λ e. cc) known read)
-  project_taken name project (Refused named line reason) held known read = absurd (not_refused failed name project (Refused named line reason) held none (λ e. cc) known read)
-  project_taken name project (Served how) held known read = absurd read
-  project_taken name project (Reported report) held known read = absurd read
-  project_taken name project (Cut report) held known read = absurd read
-  project_taken name project WriteFailed held known read = absurd read
-
   module _ (project : ProjectView) (content : Lookup) (sources : List (List ℕ)) (built : List Cmi) (holds : HoldUnits project content (unit_count project) sources built) (unit : ℕ) (lt : unit < unit_count project) where
     -- the text of a unit's file
     file_there : (so : Bool) → is_built project unit ≡ so → (text : List ℕ) × HoldsWithin content (file_by so project unit) (most_by so) text
@@ -125,7 +116,7 @@ module _ (failed : Type 0) (none : failed → ⊥) where
     unit_taken ended (as_cmi text is within bad) = absurd (own_cmi text ended is within bad)
 
   all_taken : (name : List ℕ) (content : Lookup) (ended : Ended) → HoldsAll name content → RefusesList failed name ended content → ended ≡ OutOfMemory
-  all_taken name content ended known (inl read) = project_taken name known.project ended (content name) known.holds.declares read
+  all_taken name content ended known (inl read) = project_taken failed none name known.project ended (content name) known.holds.declares read
   all_taken name content ended known (inr stop) =
       let same : stop.0 ≡ known.project = same_project (content name) stop.0 known.project stop.1 known.holds.declares in
       let stops : StopsAt failed known.project content ended = subst (λ p. StopsAt failed p content ended) same stop.2 in

@@ -1,9 +1,10 @@
 -- What `gen` comes to: the files of a generated project, written one after another.
 use Rattle.std.specs.Prelude.{◌≡◌, ◌≢◌, ℕ, suc, ◌+◌, ◌<◌, true, List, [], ◌∷◌, ◌++◌, All, length, take, Option, Some, Result, Ok, Err, codes, decimal}
+use Rattle.mm_outside.specs.Causes.{Rose}
 use Rattle.mm_outside.specs.Files.{Lookup}
 use Rattle.mm_outside.specs.Told.{Told}
 use Rattle.cody_words.specs.Buffers.{Buffer}
-use Rattle.export_lists.specs.Generated.{numbered, generated}
+use Rattle.export_lists.specs.Generated.{generated, source_path}
 use Rattle.export_lists.specs.declared.generated.Generated.{Generated}
 use Rattle.modmap.specs.Endings.{Ended, OutOfMemory, WriteFailed, Report, EndsIn}
 
@@ -18,14 +19,10 @@ pub record NamedText : Type 0 where
 abbrev pub project_name : List ℕ → List ℕ
 project_name folder = folder ++ codes "/project"
 
--- the name of the source of a unit
-abbrev pub source_name : List ℕ → ℕ → List ℕ
-source_name folder number = folder ++ (numbered (codes "/u") number ++ codes ".cc")
-
 -- the sources, numbered from the first one's number on
 abbrev pub source_files : List ℕ → ℕ → List (List ℕ) → List NamedText
 source_files folder number [] = []
-source_files folder number (text ∷ texts) = record { name = source_name folder number; text = text } ∷ source_files folder (suc number) texts
+source_files folder number (text ∷ texts) = record { name = source_path folder number; text = text } ∷ source_files folder (suc number) texts
 
 -- the files of a generated project, in the order in which they are written: the project file and then the sources
 abbrev pub files_of : List ℕ → Generated → List NamedText
@@ -69,11 +66,11 @@ wrote_report count = record { text = wrote_text count; good = true }
 abbrev pub capacity_of : Buffer → ℕ
 capacity_of buffer = buffer.spare + length buffer.octets
 
-module _ (failed kept : Type 0) (before now : Option Lookup) where
+module _ (faults_before faults_now : ℕ) (before now : Option Lookup) where
   -- What `gen` comes to, by its ending: all files were written, and it ends with the report of their number; or a
-  -- write of a file failed, and no further file was written; or memory was wanted, before any file was written.
-  -- `failed` says that a write of a file failed, and `kept` that none did.
+  -- write of a file failed, and no further file was written; or memory was wanted, before any file was written. The
+  -- counts are those of failed writes of files.
   pub data GeneratesSo (folder : List ℕ) (units seed : ℕ) (ended : Ended) : Type 0 where
-    all_written : Told (HoldTexts (generated_files folder units seed)) before now → kept → EndsIn (wrote_report (units + 1)) ended → GeneratesSo folder units seed ended
-    write_stopped : Told (StopsWithin (generated_files folder units seed)) before now → failed → ended ≡ WriteFailed → GeneratesSo folder units seed ended
-    none_written : Told (λ (old new : Lookup). new ≡ old) before now → kept → ended ≡ OutOfMemory → GeneratesSo folder units seed ended
+    all_written : Told (HoldTexts (generated_files folder units seed)) before now → faults_now ≡ faults_before → EndsIn (wrote_report (units + 1)) ended → GeneratesSo folder units seed ended
+    write_stopped : Told (StopsWithin (generated_files folder units seed)) before now → Rose faults_before faults_now → ended ≡ WriteFailed → GeneratesSo folder units seed ended
+    none_written : Told (λ (old new : Lookup). new ≡ old) before now → faults_now ≡ faults_before → ended ≡ OutOfMemory → GeneratesSo folder units seed ended

@@ -1,6 +1,7 @@
 pub mod Adapters
 pub mod Commands
 pub mod Endings
+pub mod FileReadings
 pub mod ProjectFiles
 pub mod TraceFiles
 pub mod Reports

@@ -20,6 +20,7 @@ use Rattle.modmap.specs.declared.unit_files.Fault.{Fault}
 use Rattle.modmap.specs.declared.unit_files.Fault.TheVariants as fault
 use Rattle.modmap.specs.declared.unit_files.Gathered.{Gathered}
 use Rattle.modmap.specs.Endings.{Ended, OutOfMemory, CannotRead, FileTooLong, Refused, Report, EndsIn, Issues, Output}
+use Rattle.modmap.specs.FileReadings.{Stay}
 use Rattle.modmap.specs.ProjectFiles.{DeclaresProject, IsOfFile, IsReadAs}
 
 -- ---- the files of units
@@ -120,11 +121,6 @@ pub record StopsAt (failed : Type 0) (project : ProjectView) (content : Lookup) 
   pub built : List Cmi
   pub before : HoldUnits project content unit sources built
   pub refused : RefusesUnit failed project unit content ended
-
--- no file changed, and this is so of what they hold
-pub record Stay (R : Lookup → Type 0) (before now : Lookup) : Type 0 where
-  pub same : now ≡ before
-  pub so : R before
 
 -- some text declares the project
 pub record IsDeclared (project : ProjectView) : Type 0 where

@@ -1,11 +1,12 @@
 -- What a project file is read as.
-use Rattle.std.specs.Prelude.{◌≡◌, ℕ, ◌≤◌, ◌<◌, ◌⊎◌, List, length, Option, Some, None, Result, Ok, Err}
+use Rattle.std.specs.Prelude.{◌≡◌, ℕ, List, Option, Result, Ok, Err}
 use Rattle.unit_registry.specs.declared.reason.ProjectReason.{ProjectReason}
 use Rattle.unit_registry.specs.Projects.{ProjectView}
 use Rattle.unit_registry.specs.Readings.{Declares, IsFault}
 use Rattle.unit_registry.specs.Reasons.{reason_text}
 use Rattle.mm_outside.specs.Files.{Lookup}
 use Rattle.modmap.specs.declared.ending.Ending.{Ending}
+use Rattle.modmap.specs.FileReadings.{Holds, IsFileReadAs, Stay}
 use Rattle.modmap.specs.Endings.{Ended, told_by, BadWords, OutOfMemory, CannotRead, FileTooLong, Refused, Served, Reported, Cut, WriteFailed}
 
 -- the most octets that a project file may have
@@ -13,47 +14,18 @@ abbrev pub most_project_octets : ℕ
 most_project_octets = 16777216
 
 -- the file holds a text within the limit that declares the project
-pub record DeclaresProject (held : Option (List ℕ)) (project : ProjectView) : Type 0 where
-  pub text : List ℕ
-  pub held_is : held ≡ Some text
-  pub within : length text ≤ most_project_octets
-  pub declares : Declares text project
+abbrev pub DeclaresProject : Option (List ℕ) → ProjectView → Type 0
+DeclaresProject held project = Holds most_project_octets Declares held project
 
--- there is no such file, or reading it failed
-pub record IsUnreadable (failed : Type 0) (name : List ℕ) (held : Option (List ℕ)) (named : List ℕ) : Type 0 where
-  pub named_is : named ≡ name
-  pub cause : (held ≡ None) ⊎ failed
-
--- the file holds more octets than a file of its kind may have
-pub record IsTooLong (most : ℕ) (name : List ℕ) (held : Option (List ℕ)) (named : List ℕ) : Type 0 where
-  pub named_is : named ≡ name
-  pub text : List ℕ
-  pub held_is : held ≡ Some text
-  pub above : most < length text
-
--- the file holds a text within the limit whose first fault is on this line, for this reason
-pub record IsRefused (name : List ℕ) (held : Option (List ℕ)) (named : List ℕ) (line : ℕ) (reason : List ℕ) : Type 0 where
-  pub named_is : named ≡ name
-  pub text : List ℕ
-  pub held_is : held ≡ Some text
-  pub within : length text ≤ most_project_octets
+-- the first fault of a text is on this line, for a reason with this text
+pub record HasFault (text : List ℕ) (line : ℕ) (reason : List ℕ) : Type 0 where
   pub cause : ProjectReason
   pub fault : IsFault text line cause
   pub reason_is : reason ≡ reason_text cause
 
--- What the project file of this name is read as, by what it holds: the project that it declares, or why there is none.
--- `failed` says that a read failed.
+-- what the project file of this name is read as: the project that it declares, or why there is none
 abbrev pub IsReadAs : Type 0 → List ℕ → Result ProjectView Ended → Option (List ℕ) → Type 0
-IsReadAs failed name (Ok project) held = DeclaresProject held project
-IsReadAs failed name (Err BadWords) held = ⊥
-IsReadAs failed name (Err OutOfMemory) held = Unit {0}
-IsReadAs failed name (Err (CannotRead named)) held = IsUnreadable failed name held named
-IsReadAs failed name (Err (FileTooLong named)) held = IsTooLong most_project_octets name held named
-IsReadAs failed name (Err (Refused named line reason)) held = IsRefused name held named line reason
-IsReadAs failed name (Err (Served how)) held = ⊥
-IsReadAs failed name (Err (Reported report)) held = ⊥
-IsReadAs failed name (Err (Cut report)) held = ⊥
-IsReadAs failed name (Err WriteFailed) held = ⊥
+IsReadAs failed name result held = IsFileReadAs most_project_octets Declares HasFault failed name result held
 
 -- what was read, with what an ending tells in place of it
 abbrev pub read_as : {A : Type 0} → Result A Ending → Result A Ended
@@ -61,9 +33,8 @@ read_as (Ok read) = Ok read
 read_as (Err ending) = Err (told_by ending)
 
 -- the file of this name was read as this, and no file changed
-pub record FindsProject (failed : Type 0) (name : List ℕ) (result : Result ProjectView Ended) (old new : Lookup) : Type 0 where
-  pub is_read_as : IsReadAs failed name result (old name)
-  pub same : new ≡ old
+abbrev pub FindsProject : Type 0 → List ℕ → Result ProjectView Ended → Lookup → Lookup → Type 0
+FindsProject failed name result = Stay (λ content. IsReadAs failed name result (content name))
 
 -- an ending that a file which is read brings
 abbrev pub IsOfFile : Ended → Type 0

@@ -108,7 +108,7 @@ module _ {L : Type 0} (outside : Outside L) where
 
   -- what generating a project in this folder comes to, by its ending; no read failed, and the link is as it was
   pub record GeneratesAside (folder : List ℕ) (units seed : ℕ) (ended : Ended) : Type 0 where
-    pub generates_so : GeneratesSo (Rose outside.file_writes_before outside.file_writes_now) (outside.file_writes_now ≡ outside.file_writes_before) outside.files_before outside.files_now folder units seed ended
+    pub generates_so : GeneratesSo outside.file_writes_before outside.file_writes_now outside.files_before outside.files_now folder units seed ended
     pub reads : outside.file_reads_now ≡ outside.file_reads_before
     pub link : outside.link_now ≡ outside.link_before
 

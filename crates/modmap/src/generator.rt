@@ -1,12 +1,13 @@
 //! The command `gen`: writing a generated project.
 
 ghost use Rattle.std.specs.Prelude.{◌≡◌, ◌≤◌, ◌+◌, length};
-ghost use Rattle.mm_outside.specs.Causes.{HasCause, Rose};
+ghost use Rattle.mm_outside.specs.Causes.{HasCause};
 ghost use Rattle.mm_outside.specs.Files.{Stores};
 ghost use Rattle.mm_outside.specs.Told.{Told};
+ghost use Rattle.export_lists.specs.Generated.{source_path};
 ghost use Rattle.modmap.specs.Askings.{longest_folder, most_units};
 ghost use Rattle.modmap.specs.Endings.{Ends, output_of};
-ghost use Rattle.modmap.specs.Generating.{GeneratesSo, WritesAll, capacity_of, files_of, project_name, source_files, source_name, wrote_text};
+ghost use Rattle.modmap.specs.Generating.{GeneratesSo, WritesAll, capacity_of, files_of, project_name, source_files, wrote_text};
 
 use crate::telling::{issue, print_text, tell_memory};
 use cody_words::{LineBuf, write_number};
@@ -31,7 +32,7 @@ fn name_project(folder: &[u8], name: &mut LineBuf)
 /// Puts the name of the source of a unit into the buffer.
 fn name_source(folder: &[u8], number: u32, name: &mut LineBuf)
     requires { length folder.now + 30 ≤ capacity_of name.old }
-    ensures name { name.new.octets ≡ source_name folder.now number }
+    ensures name { name.new.octets ≡ source_path folder.now number }
     ensures room { capacity_of name.new ≡ capacity_of name.old }
 {
     name.clear();
@@ -78,7 +79,7 @@ fn write_source<F: Files>(
     files: &mut F,
 ) -> Result<(), Failed>
     requires { length folder.now + 30 ≤ capacity_of name.old }
-    ensures content { Told (Stores result (source_name folder.now number) text.now) (F.content files.old) (F.content files.new) }
+    ensures content { Told (Stores result (source_path folder.now number) text.now) (F.content files.old) (F.content files.new) }
     ensures cause { HasCause (F.write_faults files.old) (F.write_faults files.new) result }
     ensures read_faults { F.read_faults files.new ≡ F.read_faults files.old }
     ensures room { capacity_of name.new ≡ capacity_of name.old }
@@ -142,7 +143,7 @@ pub fn run_gen<F: Files, K: Sink>(
 ) -> u8
     requires folder { length folder.now ≤ longest_folder }
     requires units { units ≤ most_units }
-    ensures run { Ends (GeneratesSo (Rose (F.write_faults files.old) (F.write_faults files.new)) (F.write_faults files.new ≡ F.write_faults files.old) (F.content files.old) (F.content files.new) folder.now units seed)
+    ensures run { Ends (GeneratesSo (F.write_faults files.old) (F.write_faults files.new) (F.content files.old) (F.content files.new) folder.now units seed)
         (output_of K.written K.faults out.old out.new) result }
     ensures read_faults { F.read_faults files.new ≡ F.read_faults files.old }
 {

@@ -6,7 +6,8 @@ ghost use Rattle.mm_outside.specs.Told.{Told};
 ghost use Rattle.header_units.specs.Names.{name_kind};
 ghost use Rattle.unit_registry.specs.Projects.{is_built, name_of, unit_count};
 ghost use Rattle.modmap.specs.Endings.{OutOfMemory, told_by};
-ghost use Rattle.modmap.specs.ListRuns.{AddsSo, BuiltHaveNames, CmiSo, FileSo, Fit, GathersSo, SourceSo, Stay, TextSo, cmi_file, ended_at, ended_by, most_source_octets, stopped_as};
+ghost use Rattle.modmap.specs.FileReadings.{Stay};
+ghost use Rattle.modmap.specs.ListRuns.{AddsSo, BuiltHaveNames, CmiSo, FileSo, Fit, GathersSo, SourceSo, TextSo, cmi_file, ended_at, ended_by, most_source_octets, stopped_as};
 ghost use Rattle.modmap.specs.ProjectFiles.{KeepsReadsOf};
 ghost use Rattle.modmap.specs.declared.unit_files.Stop.TheVariants as stop;
 

@@ -1,7 +1,8 @@
 use Rattle.std.proofs.Common.{subst, arith}
 use Rattle.mm_outside.specs.Causes.{Rose}
 use Rattle.mm_outside.specs.Told.{Told}
-use Rattle.modmap.specs.ListRuns.{RefusesUnit, Stay, ended_by}
+use Rattle.modmap.specs.FileReadings.{Stay}
+use Rattle.modmap.specs.ListRuns.{RefusesUnit, ended_by}
 use Rattle.modmap.proofs.Gatherings.{stops}
 use Rattle.modmap.proofs.Statuses.{keeps_since}
 use Rattle.modmap.proofs.unit_files.gather.Goals as goal

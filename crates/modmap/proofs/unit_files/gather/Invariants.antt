@@ -1,6 +1,7 @@
 use Rattle.std.proofs.Common.{◌≡◌}
 use Rattle.mm_outside.specs.Told.{Told}
-use Rattle.modmap.specs.ListRuns.{Fit, HoldUnits, Stay}
+use Rattle.modmap.specs.FileReadings.{Stay}
+use Rattle.modmap.specs.ListRuns.{Fit, HoldUnits}
 use Rattle.modmap.proofs.unit_files.gather.Given as goal
 
 abbrev pub invariant-loop-unit : goal.invariant-loop-unit
