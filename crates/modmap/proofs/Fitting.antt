@@ -1,5 +1,5 @@
 -- What was read isn't too much for the history, where that isn't full and no write has failed.
-use Rattle.std.proofs.Common.{◌≡◌, ◌≢◌, ℕ, ◌+◌, ◌-◌, ◌≤◌, List, [], ◌∷◌, length, map, take, refl, sym, ap, subst, ◌∙◌, arith}
+use Rattle.std.proofs.Common.{◌≡◌, ◌≢◌, ℕ, ◌+◌, ◌-◌, ◌≤◌, List, [], ◌∷◌, ◌++◌, length, map, take, refl, sym, ap, subst, ◌∙◌, arith}
 use Rattle.std.proofs.lemmas.List.{append-nil, length-append, length-take}
 use Rattle.std.specs.Prelude.{IsSomeAnd, String, nat_le, string_bytes}
 use Rattle.std.specs.declared.alloc.Global.{Global}
@@ -42,14 +42,19 @@ fits asked limit going last few e =
 abbrev going : ProjectView → ℕ → List ℕ → ℕ → Acts
 going project entries read status = goes_by status (nat_le (length (acts project (taken read))) (entries - 3))
 
-within_at : (project : ProjectView) (entries : ℕ) (how : ConnEnd) → fewest_entries ≤ entries → status_of (Served how) ≢ 9 → status_of (Served how) ≢ 5 → (x y : Octets) → ServesAlone project entries how x y → ReadsWithin project entries x y
-within_at project entries Closed few nine five x y s = record { read = s.read; read_are = s.moves.read_are; within = fits (acts project (taken s.read)) entries (going project entries s.read 0) act.Left few s.served.ends.0.entries }
-within_at project entries (Truncated lines) few nine five x y s = record { read = s.read; read_are = s.moves.read_are; within = fits (acts project (taken s.read)) entries (going project entries s.read 7) act.Lost few s.served.ends.0.entries }
-within_at project entries ReadFault few nine five x y s = record { read = s.read; read_are = s.moves.read_are; within = fits (acts project (taken s.read)) entries (going project entries s.read 4) act.Lost few s.served.ends.entries }
-within_at project entries WriteFault few nine five x y s = absurd (five refl)
-within_at project entries TooLong few nine five x y s = record { read = s.read; read_are = s.moves.read_are; within = fits (acts project (taken s.read)) entries (going project entries s.read 8) act.Lost few s.served.ends.0.entries }
-within_at project entries BatchTooLong few nine five x y s = record { read = s.read; read_are = s.moves.read_are; within = fits (acts project (taken s.read)) entries (going project entries s.read 8) act.Lost few s.served.ends.0.entries }
-within_at project entries (HistoryFull m n) few nine five x y s = absurd (nine refl)
+module _ (project : ProjectView) (entries : ℕ) (few : fewest_entries ≤ entries) where
+  -- the blocks that were read stand in the history whole
+  whole_within : (status : ℕ) (last : Acts) (x y : Octets) (read : List ℕ) → y.read ≡ x.read ++ read → acts_of 0 (gone (take (entries - 3) (acts project (taken read))) (going project entries read status)) ≡ whole_course (acts project (taken read)) last → ReadsWithin project entries x y
+  whole_within status last x y read read_are stand = record { read = read; read_are = read_are; so = fits (acts project (taken read)) entries (going project entries read status) last few stand }
+
+  within_at : (how : ConnEnd) → status_of (Served how) ≢ 9 → status_of (Served how) ≢ 5 → (x y : Octets) → ServesAlone project entries how x y → ReadsWithin project entries x y
+  within_at Closed nine five x y s = whole_within 0 act.Left x y s.read s.moves.read_are s.served.ends.0.entries
+  within_at (Truncated lines) nine five x y s = whole_within 7 act.Lost x y s.read s.moves.read_are s.served.ends.0.entries
+  within_at ReadFault nine five x y s = whole_within 4 act.Lost x y s.read s.moves.read_are s.served.ends.entries
+  within_at WriteFault nine five x y s = absurd (five refl)
+  within_at TooLong nine five x y s = whole_within 8 act.Lost x y s.read s.moves.read_are s.served.ends.0.entries
+  within_at BatchTooLong nine five x y s = whole_within 8 act.Lost x y s.read s.moves.read_are s.served.ends.0.entries
+  within_at (HistoryFull m n) nine five x y s = absurd (nine refl)
 
 module _ {L : Type 0} (outside : Outside L) where
   -- the link is read within the history
@@ -59,12 +64,12 @@ module _ {L : Type 0} (outside : Outside L) where
   nothing_read : (project : ProjectView) (entries : ℕ) → fewest_entries ≤ entries → outside.link_now ≡ outside.link_before → IsRead project entries
   nothing_read project entries few link =
       subst (λ now. Told (ReadsWithin project entries) (outside.octets outside.link_before) (outside.octets now)) (sym link)
-      (Told-same {R = ReadsWithin project entries} (λ x. record { read = []; read_are = sym (append-nil x.read); within = few }))
+      (Told-same {R = ReadsWithin project entries} (λ x. record { read = []; read_are = sym (append-nil x.read); so = few }))
 
   pipe_fits : (name : List ℕ) (entries : ℕ) (project : ProjectView) (ended : Ended) → fewest_entries ≤ entries → IsSomeAnd outside.files_before (λ content. DeclaresProject (content name) project) → Pipes outside name entries ended → status_of ended ≢ 9 → status_of ended ≢ 5 → IsRead project entries
   pipe_fits name entries project ended few known (served how serves is) nine five =
       subst (λ some. IsRead some entries) (told_project (Rose outside.file_reads_before outside.file_reads_now) name project serves.project outside.files_before outside.files_now known serves.reads)
-      (Told-map {R = ServesAlone serves.project entries how} {S = ReadsWithin serves.project entries} (λ x y s. within_at serves.project entries how few (λ e. nine (ap status_of is ∙ e)) (λ e. five (ap status_of is ∙ e)) x y s) serves.serves)
+      (Told-map {R = ServesAlone serves.project entries how} {S = ReadsWithin serves.project entries} (λ x y s. within_at serves.project entries few how (λ e. nine (ap status_of is ∙ e)) (λ e. five (ap status_of is ∙ e)) x y s) serves.serves)
   pipe_fits name entries project ended few known (refused kind reads keeps link) nine five = nothing_read project entries few link
   pipe_fits name entries project ended few known (no_memory aside is) nine five = nothing_read project entries few aside.link
 

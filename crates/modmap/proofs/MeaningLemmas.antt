@@ -17,13 +17,13 @@ use Rattle.trace_text.specs.declared.trace.Trace.{Trace}
 use Rattle.modmap.specs.Commands.{Task, Pipe, Check, Replay, ListUnits, Generate, AsksFor}
 use Rattle.modmap.specs.Endings.{Report, Ended, BadWords, OutOfMemory, CannotRead, FileTooLong, Refused, Served, Reported, Cut, WriteFailed, EndsIn, Output, Prints, Speaks, message_of, status_of}
 use Rattle.modmap.specs.ListRuns.{ListsSo, RefusesList, list_report}
-use Rattle.modmap.specs.Meanings.{FillsHistory, IsOverTrace, IsOverUnits, IsRefusedOf, IsReportOf, Judges, NamesRefused, ReadsBeyond, ReadsTooMuch, EndsInBlock}
+use Rattle.modmap.specs.Meanings.{FillsHistory, IsEitherRefused, IsOverTrace, IsOverUnits, IsRefusedOf, IsReportOf, Judges, NamesRefused, ReadsBeyond, ReadsTooMuch, EndsInBlock}
 use Rattle.modmap.specs.ProjectFiles.{DeclaresProject, FindsProject, IsOfFile, IsReadAs}
 use Rattle.modmap.specs.Replays.{replay_report}
 use Rattle.modmap.specs.Reports.{Refuses, ReportsSo, check_report}
 use Rattle.modmap.specs.Running.{Outside, DoesTask, IsReport, Pipes, served, refused, no_memory}
 use Rattle.connection_core.specs.Serving.{ServesAlone}
-use Rattle.modmap.specs.TraceFiles.{FindsTrace, IsTraceReadAs}
+use Rattle.modmap.specs.TraceFiles.{FindsTrace}
 use Rattle.modmap.proofs.Complete.{never_full}
 use Rattle.modmap.proofs.Statuses.{differ, in_report, of_file, report_never, status_by}
 use Rattle.modmap.proofs.Writings.{gen_never}
@@ -98,8 +98,8 @@ beyond_at project entries Closed eight x y s = absurd (omega (arith, eight))
 beyond_at project entries (Truncated lines) eight x y s = absurd (omega (arith, eight))
 beyond_at project entries ReadFault eight x y s = absurd (omega (arith, eight))
 beyond_at project entries WriteFault eight x y s = absurd (omega (arith, eight))
-beyond_at project entries TooLong eight x y s = record { read = s.read; read_are = s.moves.read_are; beyond = inl s.served.ends.1 }
-beyond_at project entries BatchTooLong eight x y s = record { read = s.read; read_are = s.moves.read_are; beyond = inr s.served.ends.1 }
+beyond_at project entries TooLong eight x y s = record { read = s.read; read_are = s.moves.read_are; so = inl s.served.ends.1 }
+beyond_at project entries BatchTooLong eight x y s = record { read = s.read; read_are = s.moves.read_are; so = inr s.served.ends.1 }
 beyond_at project entries (HistoryFull m n) eight x y s = absurd (omega (arith, eight))
 
 full_at : (project : ProjectView) (entries : ℕ) (how : ConnEnd) → status_of (Served how) ≡ 9 → (x y : Octets) → ServesAlone project entries how x y → ReadsTooMuch project entries x y
@@ -109,7 +109,7 @@ full_at project entries ReadFault nine x y s = absurd (omega (arith, nine))
 full_at project entries WriteFault nine x y s = absurd (omega (arith, nine))
 full_at project entries TooLong nine x y s = absurd (omega (arith, nine))
 full_at project entries BatchTooLong nine x y s = absurd (omega (arith, nine))
-full_at project entries (HistoryFull m n) nine x y s = record { read = s.read; read_are = s.moves.read_are; above = not_most (length (acts project (taken s.read)) + 3) entries (λ fits. never_full project entries s.read s.written fits s.served.ends.0) }
+full_at project entries (HistoryFull m n) nine x y s = record { read = s.read; read_are = s.moves.read_are; so = not_most (length (acts project (taken s.read)) + 3) entries (λ fits. never_full project entries s.read s.written fits s.served.ends.0) }
 
 -- ---- a task
 
@@ -139,12 +139,12 @@ module _ {L : Type 0} (outside : Outside L) where
   -- ---- status 6
 
   report_six : (reports : ProjectView → Trace → Report) (project trace : List ℕ) (ended : Ended) → ReportsSo failed outside.files_before outside.files_now reports project trace ended → status_of ended ≡ 6
-      → IfSome outside.files_before (λ content. IsReadAs failed project (Err ended) (content project) ⊎ IsTraceReadAs failed trace (Err ended) (content trace))
+      → IfSome outside.files_before (λ content. IsEitherRefused failed content project trace ended)
   report_six reports project trace ended (ReportsSo.reported found heard first second ends) six = absurd (report_never (reports found heard) ended 6 ends (λ e. omega (arith, e)) (λ e. omega (arith, e)) (λ e. omega (arith, e)) six)
   report_six reports project trace ended (ReportsSo.refused kind (Refuses.project_refused told)) six =
-      told_before {R = FindsProject failed project (Err ended)} (λ content. IsReadAs failed project (Err ended) (content project) ⊎ IsTraceReadAs failed trace (Err ended) (content trace)) (λ x y found. inl found.so) outside.files_before outside.files_now told
+      told_before {R = FindsProject failed project (Err ended)} (λ content. IsEitherRefused failed content project trace ended) (λ x y found. inl found.so) outside.files_before outside.files_now told
   report_six reports project trace ended (ReportsSo.refused kind (Refuses.trace_refused found first told)) six =
-      told_before {R = FindsTrace failed trace (Err ended)} (λ content. IsReadAs failed project (Err ended) (content project) ⊎ IsTraceReadAs failed trace (Err ended) (content trace)) (λ x y found. inr found.so) outside.files_before outside.files_now told
+      told_before {R = FindsTrace failed trace (Err ended)} (λ content. IsEitherRefused failed content project trace ended) (λ x y found. inr found.so) outside.files_before outside.files_now told
   report_six reports project trace ended (ReportsSo.no_memory told is) six = absurd (differ (status_of ended) 3 6 (λ e. omega (arith, e)) (ap status_of is) six)
 
   pipe_six : (project : List ℕ) (entries : ℕ) (ended : Ended) → Pipes outside project entries ended → status_of ended ≡ 6 → IfSome outside.files_before (λ content. IsReadAs failed project (Err ended) (content project))

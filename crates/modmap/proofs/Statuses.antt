@@ -1,5 +1,5 @@
 -- What the status of an ending tells of it.
-use Rattle.std.proofs.Common.{◌≡◌, ◌≢◌, ◌⊎◌, inl, inr, ℕ, Bool, true, false, List, refl, sym, ap, subst, ◌∙◌, arith}
+use Rattle.std.proofs.Common.{◌≡◌, ◌≢◌, ◌⊎◌, inl, inr, ℕ, ◌<◌, Bool, true, false, List, refl, sym, ap, subst, ◌∙◌, arith}
 use Rattle.std.specs.Prelude.{if◌then◌else◌}
 use Rattle.mm_outside.specs.Causes.{Rose}
 use Rattle.connection_core.specs.declared.conn_end.ConnEnd.TheVariants.{Closed, Truncated, ReadFault, WriteFault, TooLong, BatchTooLong, HistoryFull}
@@ -114,37 +114,24 @@ kept_told due output status b n keeps tells three four = by tells.so
 -- ---- the sink
 
 -- what is done has no fault of the sink behind it
-sink_well : (ended : Ended) (b n : ℕ) → HasSinkCause ended b n → (status_of ended ≡ 0) ⊎ (status_of ended ≡ 1) → n ≡ b
-sink_well BadWords b n cause (inl done) = absurd (omega (arith, done))
-sink_well BadWords b n cause (inr done) = absurd (omega (arith, done))
-sink_well OutOfMemory b n cause (inl done) = absurd (omega (arith, done))
-sink_well OutOfMemory b n cause (inr done) = absurd (omega (arith, done))
-sink_well (CannotRead named) b n cause (inl done) = absurd (omega (arith, done))
-sink_well (CannotRead named) b n cause (inr done) = absurd (omega (arith, done))
-sink_well (FileTooLong named) b n cause (inl done) = absurd (omega (arith, done))
-sink_well (FileTooLong named) b n cause (inr done) = absurd (omega (arith, done))
-sink_well (Refused named line reason) b n cause (inl done) = absurd (omega (arith, done))
-sink_well (Refused named line reason) b n cause (inr done) = absurd (omega (arith, done))
+sink_well : (ended : Ended) (b n : ℕ) → HasSinkCause ended b n → status_of ended < 2 → n ≡ b
+sink_well BadWords b n cause done = absurd (omega (arith, done))
+sink_well OutOfMemory b n cause done = absurd (omega (arith, done))
+sink_well (CannotRead named) b n cause done = absurd (omega (arith, done))
+sink_well (FileTooLong named) b n cause done = absurd (omega (arith, done))
+sink_well (Refused named line reason) b n cause done = absurd (omega (arith, done))
 sink_well (Served Closed) b n (inl kept) done = kept
 sink_well (Served Closed) b n (inr rose) done = absurd (omega (arith, rose.0))
-sink_well (Served (Truncated lines)) b n cause (inl done) = absurd (omega (arith, done))
-sink_well (Served (Truncated lines)) b n cause (inr done) = absurd (omega (arith, done))
-sink_well (Served ReadFault) b n cause (inl done) = absurd (omega (arith, done))
-sink_well (Served ReadFault) b n cause (inr done) = absurd (omega (arith, done))
-sink_well (Served WriteFault) b n cause (inl done) = absurd (omega (arith, done))
-sink_well (Served WriteFault) b n cause (inr done) = absurd (omega (arith, done))
-sink_well (Served TooLong) b n cause (inl done) = absurd (omega (arith, done))
-sink_well (Served TooLong) b n cause (inr done) = absurd (omega (arith, done))
-sink_well (Served BatchTooLong) b n cause (inl done) = absurd (omega (arith, done))
-sink_well (Served BatchTooLong) b n cause (inr done) = absurd (omega (arith, done))
-sink_well (Served (HistoryFull entries room)) b n cause (inl done) = absurd (omega (arith, done))
-sink_well (Served (HistoryFull entries room)) b n cause (inr done) = absurd (omega (arith, done))
+sink_well (Served (Truncated lines)) b n cause done = absurd (omega (arith, done))
+sink_well (Served ReadFault) b n cause done = absurd (omega (arith, done))
+sink_well (Served WriteFault) b n cause done = absurd (omega (arith, done))
+sink_well (Served TooLong) b n cause done = absurd (omega (arith, done))
+sink_well (Served BatchTooLong) b n cause done = absurd (omega (arith, done))
+sink_well (Served (HistoryFull entries room)) b n cause done = absurd (omega (arith, done))
 sink_well (Reported report) b n cause done = cause
-sink_well (Cut report) b n cause (inl done) = absurd (omega (arith, done))
-sink_well (Cut report) b n cause (inr done) = absurd (omega (arith, done))
-sink_well WriteFailed b n cause (inl done) = absurd (omega (arith, done))
-sink_well WriteFailed b n cause (inr done) = absurd (omega (arith, done))
+sink_well (Cut report) b n cause done = absurd (omega (arith, done))
+sink_well WriteFailed b n cause done = absurd (omega (arith, done))
 
 pub ends_well : {IsSo : Ended → Type 0} {output : Output} {status : ℕ} → Ends IsSo output status → (status ≡ 0) ⊎ (status ≡ 1) → output.faults_now ≡ output.faults_before
-ends_well {output} run (inl done) = sink_well run.ending output.faults_before output.faults_now run.cause (inl (sym run.status_is ∙ done))
-ends_well {output} run (inr done) = sink_well run.ending output.faults_before output.faults_now run.cause (inr (sym run.status_is ∙ done))
+ends_well {output} run (inl done) = sink_well run.ending output.faults_before output.faults_now run.cause (omega (arith, run.status_is, done))
+ends_well {output} run (inr done) = sink_well run.ending output.faults_before output.faults_now run.cause (omega (arith, run.status_is, done))

@@ -23,12 +23,16 @@ use Rattle.modmap.specs.TraceFiles.{HoldsTrace, IsTraceReadAs}
 
 -- ---- a file that is refused
 
+-- the project file isn't taken, or the trace's isn't, as the ending says
+abbrev pub IsEitherRefused : Type 0 → Lookup → List ℕ → List ℕ → Ended → Type 0
+IsEitherRefused failed content project trace ended = IsReadAs failed project (Err ended) (content project) ⊎ IsTraceReadAs failed trace (Err ended) (content trace)
+
 -- What a task reads isn't taken, as the ending says: its project file, its trace's, or that of a unit. `failed` says
 -- that a read failed.
 abbrev pub IsRefusedOf : Type 0 → Lookup → Task → Ended → Type 0
 IsRefusedOf failed content (Pipe project entries) ended = IsReadAs failed project (Err ended) (content project)
-IsRefusedOf failed content (Check project trace) ended = IsReadAs failed project (Err ended) (content project) ⊎ IsTraceReadAs failed trace (Err ended) (content trace)
-IsRefusedOf failed content (Replay project trace) ended = IsReadAs failed project (Err ended) (content project) ⊎ IsTraceReadAs failed trace (Err ended) (content trace)
+IsRefusedOf failed content (Check project trace) ended = IsEitherRefused failed content project trace ended
+IsRefusedOf failed content (Replay project trace) ended = IsEitherRefused failed content project trace ended
 IsRefusedOf failed content (ListUnits project) ended = RefusesList failed project ended content
 IsRefusedOf failed content (Generate folder units seed) ended = ⊥
 
@@ -92,23 +96,27 @@ pub record EndsInBlock (before now : Octets) : Type 0 where
   pub over : now.to_come ≡ []
   pub inside : 0 < held read
 
+-- octets were read of which this is so
+pub record Reads (IsSo : List ℕ → Type 0) (before now : Octets) : Type 0 where
+  pub read : List ℕ
+  pub read_are : now.read ≡ before.read ++ read
+  pub so : IsSo read
+
 -- octets were read that pass a limit
-pub record ReadsBeyond (before now : Octets) : Type 0 where
-  pub read : List ℕ
-  pub read_are : now.read ≡ before.read ++ read
-  pub beyond : PassesLimits read
+abbrev pub ReadsBeyond : Octets → Octets → Type 0
+ReadsBeyond = Reads PassesLimits
 
--- the blocks that were read enter more acts than a history of so many entries has room for, beside its other three
-pub record ReadsTooMuch (project : ProjectView) (entries : ℕ) (before now : Octets) : Type 0 where
-  pub read : List ℕ
-  pub read_are : now.read ≡ before.read ++ read
-  pub above : entries < length (acts project (taken read)) + 3
+-- the acts that the blocks of these octets enter, and the three entries that any connection alone has
+abbrev pub entries_of : ProjectView → List ℕ → ℕ
+entries_of project read = length (acts project (taken read)) + 3
 
--- the blocks that were read enter no more acts than a history of so many entries has room for, beside its other three
-pub record ReadsWithin (project : ProjectView) (entries : ℕ) (before now : Octets) : Type 0 where
-  pub read : List ℕ
-  pub read_are : now.read ≡ before.read ++ read
-  pub within : length (acts project (taken read)) + 3 ≤ entries
+-- what was read enters more than a history of so many entries has room for
+abbrev pub ReadsTooMuch : ProjectView → ℕ → Octets → Octets → Type 0
+ReadsTooMuch project entries = Reads (λ read. entries < entries_of project read)
+
+-- what was read enters no more than a history of so many entries has room for
+abbrev pub ReadsWithin : ProjectView → ℕ → Octets → Octets → Type 0
+ReadsWithin project entries = Reads (λ read. entries_of project read ≤ entries)
 
 -- where the words ask to serve the link over a project that the file declares, what was read isn't too much for the
 -- history

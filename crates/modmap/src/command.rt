@@ -57,10 +57,10 @@ pub enum Command<'a> {
 }
 
 impl<'a> Command<'a> {
-    /// The command that the words are, without the program's name; `None` where they are of no form: `pipe PROJECT
-    /// [ENTRIES]` with ENTRIES from 3 to 1,048,576, decimal without leading zeros, `check PROJECT TRACE`, `replay
-    /// PROJECT TRACE`, `list PROJECT`, or `gen FOLDER UNITS SEED` with a FOLDER of 1 to 400 octets, none below 0x20 and
-    /// none 0x7f, UNITS from 1 to 2,000 and SEED from 0 to 2,147,483,647. The forms are this project's own.
+    /// The command that the words are, without the program's name; `None` where they are of no form:
+    /// `pipe PROJECT [ENTRIES]` with ENTRIES from 3 to 1,048,576, decimal without leading zeros, `check PROJECT TRACE`,
+    /// `replay PROJECT TRACE`, `list PROJECT`, or `gen FOLDER UNITS SEED` with a FOLDER of 1 to 400 octets, none below
+    /// 0x20 and none 0x7f, UNITS from 1 to 2,000 and SEED from 0 to 2,147,483,647. The forms are this project's own.
     pub fn read(words: &'a [String]) -> Option<Command<'a>>
         ensures asked { IfSome result (λ command. AsksFor (map string_bytes words.now) (task_of command)) }
         ensures only { IfSome result (λ command. (task : Task) → AsksFor (map string_bytes words.now) task → task ≡ task_of command) }

@@ -31,7 +31,7 @@ fn print_some<K: Sink>(text: &[u8], out: &mut K)
     let _ = print(out, text);
 }
 
-/// Prints a text, whole unless a write fails, which changes no status. Behind a failed write nothing more is written.
+/// Prints a text, whole unless a write fails, which changes no status. Behind a failed write it is never made whole.
 pub fn print_text<K: Sink>(text: &[u8], out: &mut K)
     ensures written { Told (Prints text.now (K.faults out.old) (K.faults out.new)) (K.written out.old) (K.written out.new) }
     ensures cause { RisesOnlyOver text.now (K.faults out.old) (K.faults out.new) }

@@ -19,7 +19,7 @@ plain main.cc
 end
 ";
 
-/// The same, with one name declared twice.
+/// The project of two modules, a header unit and a plain unit, with one name declared twice.
 const TWICE: &[u8] = b"modmap-project 1
 repo gcm.cache
 module a a.cc
