@@ -12,7 +12,14 @@ use Rattle.mm_outside.specs.declared.mem_house.MemHouse.{MemHouse}
 
 -- what a house in memory tells
 abbrev pub stock_of : MemHouse → Stock MemHall MemLink
-stock_of house = record { halls = house.halls.items; halls_back = house.halls_back.items; links = house.links.items; links_back = house.links_back.items }
+stock_of house = record {
+  halls = house.halls.items;
+  halls_back = house.halls_back.items;
+  links = house.links.items;
+  links_back = house.links_back.items;
+  binds = house.asked_binds.items;
+  connects = house.asked_connects.items;
+}
 
 -- how many halls and links it gave and got back
 abbrev pub counts_of : MemHouse → HouseCounts

@@ -4,7 +4,6 @@ ghost use Rattle.mm_outside.specs.Causes.{HasCause};
 
 use crate::Failed;
 use crate::text::Bytes;
-use std::alloc::Global;
 
 /// Why a file was not read.
 #[derive(Clone, Copy, Debug, PartialEq, Eq)]
@@ -33,7 +32,7 @@ pub trait Files {
     ghost write_faults: { Self → ℕ };
 
     /// What the file of that name holds, if that is at most `most` octets. No read changes a file.
-    fn read_all(&mut self, alloc: Global, name: &[u8], most: u64) -> Result<Bytes, ReadAllError>
+    fn read_all(&mut self, name: &[u8], most: u64) -> Result<Bytes, ReadAllError>
         ensures bound { IfOk result (λ octets. length octets ≤ most) }
         ensures content { Told (Finds result name.now most) (content self.old) (content self.new) }
         ensures cause { HasCause (read_faults self.old) (read_faults self.new) (as_result result) }

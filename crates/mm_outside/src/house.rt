@@ -17,7 +17,7 @@ pub enum HouseError {
 
 /// Where a server gets its halls, and a client its link.
 pub trait House {
-    ghost use Rattle.mm_outside.specs.House.{Stock, Binds, TakesBack, Connects, HangsUp, as_result, count_bound, count_connected};
+    ghost use Rattle.mm_outside.specs.House.{Stock, BindRequest, Binds, TakesBack, Connects, HangsUp, as_result, count_bound, count_connected};
 
     /// Where one worker gets its connections.
     type Hall: Hall;
@@ -25,8 +25,8 @@ pub trait House {
     /// What `connect` gives.
     type Link: Link;
 
-    /// The halls and links that it can still give and those that were given back, where the house
-    /// tells them.
+    /// The halls and links that it can still give and those that were given back, and what `bind` and
+    /// `connect` were asked for, in order, where the house tells them.
     ghost stock: { Self → Option (Stock Self.Hall Self.Link) };
 
     /// How many halls and links it gave and got back.
@@ -46,7 +46,7 @@ pub trait House {
         ensures workers { IfOk result (λ halls. vec_len halls ≡ workers) }
         ensures unused { IfOk result (λ halls. All (λ hall. (Self.Hall.counts hall).back ≡
             0) halls.items) }
-        ensures stock { Told (Binds result) (stock self.old) (stock self.new) }
+        ensures stock { Told (Binds (record { address = address.now; workers = workers; links = links }) result) (stock self.old) (stock self.new) }
         ensures counts { counts self.new ≡ count_bound result (counts self.old) }
         ensures cause { HasCause (faults self.old) (faults self.new) (as_result result) };
 
@@ -62,7 +62,7 @@ pub trait House {
     /// A link to the address, with nothing read from it or written to it.
     fn connect(&mut self, address: &[u8]) -> Result<Self::Link, Failed>
         ensures fresh { IfOk result (λ link. IfSome (Self.Link.octets link) IsFresh) }
-        ensures stock { Told (Connects result) (stock self.old) (stock self.new) }
+        ensures stock { Told (Connects address.now result) (stock self.old) (stock self.new) }
         ensures counts { counts self.new ≡ count_connected result (counts self.old) }
         ensures cause { HasCause (faults self.old) (faults self.new) result };
 

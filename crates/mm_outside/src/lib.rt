@@ -7,10 +7,15 @@
 //! files, links and halls is optional, and clauses on it hold where it is told. After each call all
 //! else that the object tells is as before.
 //!
+//! A call that may run out of memory takes `alloc` as its first argument, where it has no receiver or
+//! `&self`. A method with `&mut self` takes none: its value keeps the allocator of its constructor,
+//! or that of the values it was made of.
+//!
 //! The forms in memory tell everything. They take their room when they are made, count the calls of
 //! each method from 0, and fail exactly where the call's number was listed or room is lacking.
 #![tactic(auto)]
 
+mod asked;
 mod errors;
 mod files;
 mod hall;
@@ -22,6 +27,7 @@ mod mem_hall;
 mod mem_house;
 mod mem_link;
 mod mem_sink;
+mod notes;
 mod page;
 mod script;
 mod sink;

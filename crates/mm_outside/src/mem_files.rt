@@ -14,7 +14,7 @@ use std::alloc::Global;
 
 /// Where a text stands.
 #[derive(Clone, Copy)]
-pub struct Span {
+pub(crate) struct Span {
     /// How many octets stand before it.
     pub start: usize,
     /// How many octets it has.
@@ -23,7 +23,7 @@ pub struct Span {
 
 /// Where a file's name and content stand.
 #[derive(Clone, Copy)]
-pub struct Slot {
+pub(crate) struct Slot {
     /// Where the name stands.
     pub name: Span,
     /// Where the content stands.
@@ -94,6 +94,7 @@ fn total(texts: &[Text], more: usize) -> Option<usize>
 /// listed. A write that lacks space fails too. A read that wants memory isn't counted.
 #[derive(Drop)]
 pub struct MemFiles {
+    alloc: Global,
     page: Page,
     slots: Vec<Slot>,
     free: usize,
@@ -142,6 +143,7 @@ impl MemFiles {
             return Err(Memory);
         };
         let mut files = MemFiles {
+            alloc,
             page: Page::new(alloc, octets)?,
             slots: Vec::with_capacity(alloc, slots)?,
             free: slots,
@@ -181,7 +183,7 @@ impl Files for MemFiles {
 
     ghost write_faults = { write_faults_of };
 
-    fn read_all(&mut self, alloc: Global, name: &[u8], most: u64) -> Result<Bytes, ReadAllError>
+    fn read_all(&mut self, name: &[u8], most: u64) -> Result<Bytes, ReadAllError>
         ensures bound { IfOk result (λ octets. length octets ≤ most) }
         ensures content { Told (Finds result name.now most) (Some (content_of self.old))
             (Some (content_of self.new)) }
@@ -198,7 +200,7 @@ impl Files for MemFiles {
         }
         let answer = match self.content(name) {
             None => Err(ReadAllError::Absent),
-            Some(held) => copy(alloc, held, most),
+            Some(held) => copy(self.alloc, held, most),
         };
         if let Err(ReadAllError::Memory) = answer {
             return answer;

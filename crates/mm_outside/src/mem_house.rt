@@ -4,6 +4,8 @@ ghost use Rattle.mm_outside.specs.MemLink.{octets_of};
 ghost use Rattle.mm_outside.specs.Octets.{IsFresh};
 ghost use Rattle.mm_outside.specs.Padded.{PadsHalls, PadsLinks};
 
+use crate::asked::{NotedBind, NotedText};
+use crate::notes::Notes;
 use crate::script::Script;
 use crate::{Failed, House, HouseError, MemHall, MemLink, Memory};
 use std::alloc::Global;
@@ -12,14 +14,17 @@ use std::mem;
 /// A house in memory, which tells everything.
 ///
 /// It counts its calls of `bind` and of `connect`, each from 0, and a call fails where its number
-/// was listed, or where too few halls or no link are left. It minds neither address nor `links`.
-/// A `bind` that wants memory isn't counted.
+/// was listed, or where too few halls or no link are left. It minds neither address nor `links`, and
+/// tells them to proofs alone: no room that is taken beforehand holds what every call asks for.
+/// A `bind` that runs out of memory isn't counted.
 #[derive(Drop)]
 pub struct MemHouse {
     halls: Vec<MemHall>,
     halls_back: Vec<MemHall>,
     links: Vec<MemLink>,
     links_back: Vec<MemLink>,
+    asked_binds: Notes<NotedBind>,
+    asked_connects: Notes<NotedText>,
     bound: usize,
     connected: usize,
     binds: Script,
@@ -53,6 +58,8 @@ impl MemHouse {
         ensures links { IfOk result (λ house. PadsLinks room links.items (stock_of house).links) }
         ensures halls_back { IfOk result (λ house. (stock_of house).halls_back ≡ []) }
         ensures links_back { IfOk result (λ house. (stock_of house).links_back ≡ []) }
+        ensures binds { IfOk result (λ house. (stock_of house).binds ≡ []) }
+        ensures connects { IfOk result (λ house. (stock_of house).connects ≡ []) }
         ensures counts { IfOk result (λ house. counts_of house ≡
             record { bound = 0; taken_back = 0; connected = 0; hung_up = 0 }) }
         ensures plan { IfOk result (λ house. plan_of house ≡
@@ -72,6 +79,8 @@ impl MemHouse {
             halls_back: Vec::with_capacity(alloc, room)?,
             links,
             links_back: Vec::with_capacity(alloc, room)?,
+            asked_binds: Notes::new(),
+            asked_connects: Notes::new(),
             bound: 0,
             connected: 0,
             binds: Script::new(alloc, &[], failing_binds)?,
@@ -171,30 +180,28 @@ impl House for MemHouse {
 
     ghost links_bounded = { λ house. house.links_bounded };
 
-    fn bind(
-        &mut self,
-        _address: &[u8],
-        workers: u32,
-        _links: u32,
-    ) -> Result<Vec<MemHall>, HouseError>
+    fn bind(&mut self, address: &[u8], workers: u32, links: u32) -> Result<Vec<MemHall>, HouseError>
         ensures workers { IfOk result (λ halls. vec_len halls ≡ workers) }
         ensures unused { IfOk result (λ halls. All IsUnused halls.items) }
-        ensures stock { Told (Binds result) (Some (stock_of self.old)) (Some (stock_of self.new)) }
+        ensures stock { Told (Binds (record { address = address.now; workers = workers; links = links }) result) (Some (stock_of self.old)) (Some (stock_of self.new)) }
         ensures counts { counts_of self.new ≡ count_bound result (counts_of self.old) }
         ensures cause { HasCause (faults_of self.old) (faults_of self.new) (as_result result) }
         ensures fails { IsErrOf result HouseError.Failed ↔
             LacksHalls (plan_of self.old) (stock_of self.old).halls workers }
         ensures plan { plan_of self.new ≡ bind_once result (plan_of self.old) }
     {
+        let request = NotedBind::of(address, workers, links);
         let workers = workers as usize;
         if self.binds.is_due() || workers > self.halls.len() {
             self.binds.count();
+            self.asked_binds = self.asked_binds.and(&request);
             self.faults = self.faults.saturating_add(1);
             return Err(HouseError::Failed);
         }
         match take_halls(&mut self.halls, workers) {
             Ok(halls) => {
                 self.binds.count();
+                self.asked_binds = self.asked_binds.and(&request);
                 self.bound += workers;
                 Ok(halls)
             }
@@ -218,9 +225,9 @@ impl House for MemHouse {
         let _ = self.halls_back.append(&mut halls);
     }
 
-    fn connect(&mut self, _address: &[u8]) -> Result<MemLink, Failed>
+    fn connect(&mut self, address: &[u8]) -> Result<MemLink, Failed>
         ensures fresh { IfOk result (λ link. IfSome (Some (octets_of link)) IsFresh) }
-        ensures stock { Told (Connects result) (Some (stock_of self.old))
+        ensures stock { Told (Connects address.now result) (Some (stock_of self.old))
             (Some (stock_of self.new)) }
         ensures counts { counts_of self.new ≡ count_connected result (counts_of self.old) }
         ensures cause { HasCause (faults_of self.old) (faults_of self.new) result }
@@ -229,6 +236,7 @@ impl House for MemHouse {
     {
         let due = self.connects.is_due();
         self.connects.count();
+        self.asked_connects = self.asked_connects.and(&NotedText::of(address));
         if due || self.links.is_empty() {
             self.faults = self.faults.saturating_add(1);
             return Err(Failed);

@@ -9,7 +9,7 @@ use std::marker::Model;
 /// Octets that are appended one piece behind the other, in room that is taken when it is made. Contracts see the
 /// octets so far, and how many more there is room for.
 #[derive(Drop)]
-pub struct Page {
+pub(crate) struct Page {
     octets: Vec<u8>,
     filled: usize,
 }

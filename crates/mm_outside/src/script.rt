@@ -10,7 +10,7 @@ use std::marker::Model;
 /// The plan of the calls of one method: the numbers of those that fail, counted from 0, and how many octets each handles
 /// at most. Behind the last size a call handles as many as it may.
 #[derive(Drop)]
-pub struct Script {
+pub(crate) struct Script {
     calls: u64,
     failing: Vec<u64>,
     sizes: Vec<u32>,

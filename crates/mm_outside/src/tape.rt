@@ -8,7 +8,7 @@ use std::marker::Model;
 
 /// Octets that are read from the front, each once. Contracts see those that were read and those to come.
 #[derive(Drop)]
-pub struct Tape {
+pub(crate) struct Tape {
     octets: Vec<u8>,
     taken: usize,
 }

@@ -1,7 +1,8 @@
-ghost use Rattle.std.specs.Prelude.{All, IfSome, ◌≡◌, ◌≤◌};
+ghost use Rattle.std.specs.Prelude.{All, IfSome, ◌≡◌, ◌≤◌, ◌∷◌, ◌++◌, [], codes};
+ghost use Rattle.std.specs.Bool.{OnTrue};
 ghost use Rattle.mm_outside.specs.MemLink.{octets_of};
 ghost use Rattle.mm_outside.specs.MemHall.{counts_of};
-ghost use Rattle.mm_outside.specs.MemHouse.{counts_of as house_counts};
+ghost use Rattle.mm_outside.specs.MemHouse.{counts_of as house_counts, stock_of};
 ghost use Rattle.mm_outside.specs.Octets.{IsFresh};
 
 use super::*;
@@ -62,12 +63,11 @@ fn two_links(alloc: Global, first: &[u8], second: &[u8]) -> Option<Vec<MemLink>>
 /// Whether the name is read so.
 fn finds(
     files: &mut MemFiles,
-    alloc: Global,
     name: &[u8],
     most: u64,
     answer: Result<&[u8], ReadAllError>,
 ) -> bool {
-    match (files.read_all(alloc, name, most), answer) {
+    match (files.read_all(name, most), answer) {
         (Ok(octets), Ok(wanted)) => octets.octets() == wanted,
         (Err(error), Err(wanted)) => error == wanted,
         _ => false,
@@ -135,6 +135,20 @@ fn connects_none(house: &mut MemHouse) -> bool
     ensures hung_up { (house_counts house.new).hung_up ≡ (house_counts house.old).hung_up }
 {
     house.connect(b"").is_err()
+}
+
+/// Whether the house gives two halls and then a link. What it tells that it was asked for is proved.
+fn asks(house: &mut MemHouse) -> bool
+    ensures binds { OnTrue result ((stock_of house.new).binds ≡ (stock_of house.old).binds ++ record { address = codes "unix:s"; workers = 2; links = 64 } ∷ []) }
+    ensures connects { OnTrue result ((stock_of house.new).connects ≡ (stock_of house.old).connects ++ codes "unix:t" ∷ []) }
+{
+    let Ok(_halls) = house.bind(b"unix:s", 2, 64) else {
+        return false;
+    };
+    let Ok(_link) = house.connect(b"unix:t") else {
+        return false;
+    };
+    true
 }
 
 #[test]
@@ -205,8 +219,7 @@ fn pieces_are_written_whole(rt: HostRuntime) -> Result<(), Fail> {
 
 #[test]
 fn files_are_read(rt: HostRuntime) -> Result<(), Fail> {
-    let alloc = rt.alloc();
-    let mut files = two_files(alloc).ok_or("memory")?;
+    let mut files = two_files(rt.alloc()).ok_or("memory")?;
     for (name, most, answer) in [
         (b"a".as_slice(), 3, Ok(b"xyz".as_slice())),
         (b"c".as_slice(), 9, Err(ReadAllError::Failed)),
@@ -216,7 +229,7 @@ fn files_are_read(rt: HostRuntime) -> Result<(), Fail> {
         (b"b".as_slice(), 0, Ok(b"".as_slice())),
     ] {
         assert!(rt;
-            finds(&mut files, alloc, name, most, answer),
+            finds(&mut files, name, most, answer),
             "at {name:?}, {most}"
         );
     }
@@ -288,6 +301,17 @@ fn a_house_gives_halls(rt: HostRuntime) -> Result<(), Fail> {
     assert!(rt; !gives(&mut bound[0], b"") && !gives(&mut bound[1], b""));
     house.take_back(bound);
     assert_eq!(rt; house.halls_back().len(), 2);
+    Ok(())
+}
+
+#[test]
+fn a_house_tells_what_it_was_asked_for(rt: HostRuntime) -> Result<(), Fail> {
+    let alloc = rt.alloc();
+    let mut house = MemHouse::new(alloc, Vec::new(alloc), Vec::new(alloc), 2, &[], &[])
+        .ok()
+        .ok_or("memory")?;
+    assert!(rt; asks(&mut house));
+    assert!(rt; !asks(&mut house));
     Ok(())
 }
 
