@@ -66,3 +66,7 @@ word_room word = 3 * length word + 2
 abbrev pub line_room : List (List ℕ) → ℕ
 line_room [] = 3
 line_room (word ∷ words) = word_room word + 1 + line_room words
+
+-- the most room that the words of any line need
+abbrev pub most_line_room : ℕ
+most_line_room = 49155

@@ -25,7 +25,7 @@ pub use mode::is_white;
 pub use reader::{LexError, Line, Reading, lex_line};
 pub use reason::Reason;
 pub use scanner::Scanner;
-pub use words::{LONGEST_LINE, MOST_ROOM, Words};
+pub use words::{LONGEST_LINE, Words};
 pub use writer::{write_line, write_number, write_word, write_words};
 
 #[cfg(test)]

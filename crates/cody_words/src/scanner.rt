@@ -175,7 +175,7 @@ impl Scanner {
     }
 
     /// The words so far, without the scan.
-    pub fn into_words(self) -> Words
+    pub(crate) fn into_words(self) -> Words
         ensures { result ≡ self.words }
     {
         self.words

@@ -43,6 +43,9 @@ fn refuses(alloc: Global, raw: &[u8], place: u32, why: Reason, marked: bool) -> 
     }
 }
 
+/// Room for the words of any line.
+const MOST_ROOM: u32 = 49_155;
+
 /// Whether the line's words are written as this canonical line.
 fn rewrites(alloc: Global, raw: &[u8], canonical: &[u8]) -> bool {
     let Ok(Line::Words { words, more }) = lex_line(alloc, raw) else {

@@ -3,7 +3,7 @@
 ghost use Rattle.std.specs.Prelude.{◌≡◌, ◌+◌, ◌<◌, ◌≤◌, ◌++◌, ◌∷◌, ◌↔◌, [], length, IfOk, IsTrue, slice_get, Some};
 ghost use Rattle.std.specs.List.{fold};
 ghost use Rattle.cody_words.specs.Pieces.{total, cut, InOrder};
-ghost use Rattle.cody_words.specs.Canonical.{line_room};
+ghost use Rattle.cody_words.specs.Canonical.{line_room, most_line_room};
 ghost use Rattle.cody_words.specs.Lines.{longest_line};
 ghost use Rattle.cody_words.specs.Scan.{with_octet, with_word};
 
@@ -13,9 +13,6 @@ use std::marker::Model;
 
 /// The most octets that a line may have, without its NEWLINE (this project's own limit).
 pub const LONGEST_LINE: usize = 8192;
-
-/// The most room in octets that the words of any line need where `write_line` writes them.
-pub const MOST_ROOM: u32 = 49155;
 
 /// The words of one line, in order. There is always room for those of the longest line.
 #[derive(Debug, Drop)]
@@ -78,10 +75,10 @@ impl Words {
         piece(&self.octets, &self.starts, k as usize)
     }
 
-    /// The room that `write_line` asks for these words.
+    /// The room in octets that `write_line` asks for these words: at most 49,155.
     pub fn room(&self) -> u32
         ensures room { result ≡ line_room self.now }
-        ensures bound { result ≤ MOST_ROOM }
+        ensures bound { result ≤ most_line_room }
     {
         3 * (self.octets.len() + self.starts.len()) as u32 + 3
     }
