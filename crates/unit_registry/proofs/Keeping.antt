@@ -1,11 +1,11 @@
 -- One unit more is kept as those before it.
-use Rattle.std.proofs.Common.{◌≡◌, ℕ, ◌<◌, ◌≤◌, ◌⊎◌, inl, inr, zero, suc, Bool, true, false, cond, not, List, [], ◌∷◌, ◌++◌, length, get_or, Option, Some, None, refl, sym, ap, subst, ◌∙◌, arith}
+use Rattle.std.proofs.Common.{◌≡◌, ℕ, ◌<◌, ◌≤◌, ◌⊎◌, inl, inr, zero, suc, Bool, true, false, cond, not, List, [], ◌∷◌, ◌++◌, length, get_or, Option, Some, None, refl, sym, ap, subst, ◌∙◌, arith, rules}
 use Rattle.std.specs.Prelude.{slice_get, is_some, IfSome}
 use Rattle.std.specs.Option.{option_map_or}
 use Rattle.std.proofs.lemmas.Bool.{eqb-true}
 use Rattle.std.proofs.lemmas.Bool.Decides.{leb_tells}
 use Rattle.std.proofs.lemmas.Option.{slice_get_cases}
-use Rattle.std.proofs.lemmas.List.{length_push}
+use Rattle.std.proofs.lemmas.List.{length_push, get_or_default}
 use Rattle.unit_registry.specs.declared.kind.Kind.{Kind}
 use Rattle.unit_registry.specs.declared.kind.Kind.TheVariants.{Module, Header, Plain}
 use Rattle.unit_registry.specs.declared.unit.Declared.{Declared}
@@ -15,7 +15,7 @@ use Rattle.unit_registry.specs.Projects.{has_word, find_by, own_name, own_ident,
 use Rattle.unit_registry.specs.Kinds.{fits, is_plain_kind}
 use Rattle.unit_registry.specs.Numbers.{with_number}
 use Rattle.unit_registry.specs.Kept.{IsKept}
-use Rattle.unit_registry.specs.Lines.{is_text}
+use Rattle.unit_registry.specs.Lines.{is_text, longest_text}
 use Rattle.unit_registry.specs.Drafts.{unit_fault}
 use Rattle.unit_registry.proofs.Found.{pushed, find_by-push, find_by-some, find_by_at, has_word-same, has_word-own, number_in-with}
 
@@ -25,6 +25,7 @@ unfolding find_by
 kept_empty = record {
   few = omega arith;
   fitting = λ k unit e. let f : ⊥ = cc in absurd f;
+  short = λ k unit e. let f : ⊥ = cc in absurd f;
   by_name = λ k unit e s. let f : ⊥ = cc in absurd f;
   by_ident = λ k unit e. let f : ⊥ = cc in absurd f;
   name_numbers = λ word. refl;
@@ -34,6 +35,7 @@ kept_empty = record {
 -- What a unit has that can follow these units.
 pub record CanFollow (units : List Declared) (unit : Declared) : Type 0 where
   pub ident_some : 0 < length unit.ident
+  pub ident_short : length unit.ident ≤ longest_text
   pub fitting : fits unit.kind unit.name ≡ true
   pub name_new : find_by own_name units unit.name ≡ None
   pub ident_new : find_by own_ident units unit.ident ≡ None
@@ -55,6 +57,9 @@ text_some : (text : List ℕ) → is_text text ≡ true → 0 < length text
 text_some [] h = let f : ⊥ = cc in absurd f
 text_some (c ∷ rest) h = omega arith
 
+text_short : (text : List ℕ) → is_text text ≡ true → length text ≤ longest_text
+text_short text h = search rules
+
 pub can_follow : (units : List Declared) (unit : Declared) → unit_fault units unit ≡ None → CanFollow units unit
 can_follow units unit e =
     let text = not_faulty (not (is_text unit.ident)) _ _ e in
@@ -64,6 +69,7 @@ can_follow units unit e =
     let many = not_faulty _ _ _ again.1 in
     record {
       ident_some = text_some unit.ident (from_not _ text.0);
+      ident_short = text_short unit.ident (from_not _ text.0);
       fitting = from_not _ name.0;
       name_new = not_some _ twice.0;
       ident_new = not_some _ again.0;
@@ -111,11 +117,17 @@ module _ (units : List Declared) (unit : Declared) (new : CanFollow units unit) 
   fitting k d before (inl h) = before k d h
   fitting k d before (inr h) = subst (λ (x : Declared). fits x.kind x.name ≡ true) h.1 new.fitting
 
+  short : (k : ℕ) (d : Declared) → ((j : ℕ) (x : Declared) → slice_get units j ≡ Some x → length x.ident ≤ longest_text)
+      → (slice_get units k ≡ Some d) ⊎ ((k ≡ length units) × (unit ≡ d)) → length d.ident ≤ longest_text
+  short k d before (inl h) = before k d h
+  short k d before (inr h) = subst (λ (x : Declared). length x.ident ≤ longest_text) h.1 new.ident_short
+
   pub kept_push : {names idents : List (List ℕ × ℕ)} → IsKept units names idents
       → IsKept (units ++ unit ∷ []) (with_number names unit.name (length units)) (with_number idents unit.ident (length units))
   kept_push {names} {idents} kept = record {
     few = omega (arith, length_push units unit, new.room);
     fitting = λ k d e. fitting k d kept.fitting (slice_get-push units unit k d e);
+    short = λ k d e. short k d kept.short (slice_get-push units unit k d e);
     by_name = found_again own_name new.name_new (λ j x at some. kept.by_name j x at some);
     by_ident = λ k d e. found_again own_ident new.ident_new (λ j x at some. kept.by_ident j x at) k d e (ident_some k d kept.by_ident (slice_get-push units unit k d e));
     name_numbers = number_in-with own_name units unit names unit.name refl kept.name_numbers;
@@ -132,6 +144,14 @@ kept_with units units' unit names idents names' idents' n kept fine count us ns 
     let one : IsKept units' (with_number names unit.name (length units)) (with_number idents unit.ident (length units)) = subst (λ (x : List Declared). IsKept x (with_number names unit.name (length units)) (with_number idents unit.ident (length units))) (sym us) kept_now in
     let two : IsKept units' names' (with_number idents unit.ident (length units)) = subst (λ (x : List (List ℕ × ℕ)). IsKept units' x (with_number idents unit.ident (length units))) (sym (ns ∙ ap (with_number names unit.name) count)) one in
     subst (λ (x : List (List ℕ × ℕ)). IsKept units' names' x) (sym (is ∙ ap (with_number idents unit.ident) count)) two
+
+-- the ident of a kept unit isn't too long
+pub short_at : (units : List Declared) (names idents : List (List ℕ × ℕ)) → IsKept units names idents → (k : ℕ) (d : Declared) → k < length units → d ≡ get_or units k d → length d.ident ≤ longest_text
+short_at units names idents kept k d within at = by (slice_get_cases units k).1
+  where
+    by : ((x : Declared) × (k < length units) × (slice_get units k ≡ Some x) × (get_or units k x ≡ x)) ⊎ ((length units ≤ k) × (slice_get units k ≡ None)) → length d.ident ≤ longest_text
+    by (inl h) = subst (λ (x : Declared). length x.ident ≤ longest_text) (sym (at ∙ get_or_default units k d h.0 within ∙ h.3)) (kept.short k h.0 h.2)
+    by (inr h) = absurd (omega arith)
 
 -- a unit with a name that fits its kind isn't plain
 not_plain : (kind : Kind) (name : List ℕ) → fits kind name ≡ true → 0 < length name → is_plain_kind kind ≡ false

@@ -6,3 +6,4 @@ pub mod Outcomes
 pub mod Led
 mod Worked
 pub mod Grammars
+pub mod Sent

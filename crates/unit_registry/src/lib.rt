@@ -27,7 +27,7 @@ pub use kind::Kind;
 pub use laws::{
     declared_line_by_line, declared_units_differ, found_by_ident, found_by_name, one_reading,
 };
-pub use project::{MOST_UNITS, Project};
+pub use project::Project;
 pub use reader::{cut_at_newline, cut_line};
 pub use reason::{ProjectError, ProjectReason};
 

@@ -1,6 +1,6 @@
 //! A project: its repository and its units.
 
-ghost use Rattle.std.specs.Prelude.{◌≡◌, ◌≤◌, ◌<◌, ◌&&◌, [], false, length, is_some, IfOk, IfErr, IfSome};
+ghost use Rattle.std.specs.Prelude.{◌≡◌, ◌≤◌, ◌<◌, ◌&&◌, [], false, length, is_some, slice_get, Some, IfOk, IfErr, IfSome};
 ghost use Rattle.std.specs.Option.{option_map_or};
 
 use crate::act::Act;
@@ -17,7 +17,7 @@ use std::alloc::Global;
 use std::marker::Model;
 
 /// The most units of a project (this project's own limit).
-pub const MOST_UNITS: u32 = 16384;
+pub(crate) const MOST_UNITS: u32 = 16384;
 
 /// A project. Its units have idents that differ, and those that aren't plain have names that differ.
 #[derive(Debug, Drop)]
@@ -81,12 +81,22 @@ impl Project {
         self.units[unit as usize].name.octets()
     }
 
-    /// The ident of a unit: the word by which its compiler says who it is.
+    /// The ident of a unit, of at most 512 octets: the word by which its compiler says who it is.
     pub fn ident(&self, unit: u32) -> &[u8]
         requires { unit < unit_count self.now }
-        ensures { result.now ≡ ident_of self.now unit }
+        ensures ident { result.now ≡ ident_of self.now unit }
+        ensures short { length result.now ≤ longest_text }
     {
-        self.units[unit as usize].ident.octets()
+        self.entry(unit).ident.octets()
+    }
+
+    /// A unit.
+    fn entry(&self, unit: u32) -> &Declared
+        requires { unit < unit_count self.now }
+        ensures entry { slice_get self.now.units unit ≡ Some result.now }
+        ensures short { length result.now.ident ≤ longest_text }
+    {
+        &self.units[unit as usize]
     }
 
     /// The kind of a unit.

@@ -1,6 +1,7 @@
 //! Project files by their forms and their faults, and requests turned into acts.
 
 use super::*;
+use crate::project::MOST_UNITS;
 use mapper_requests::{Bad, Request};
 use std::alloc::Global;
 
