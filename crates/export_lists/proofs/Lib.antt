@@ -21,3 +21,4 @@ pub mod CmiWords
 pub mod OwnSets
 pub mod CmiLaws
 pub mod GoodLists
+pub mod Sent

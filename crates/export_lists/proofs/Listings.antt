@@ -20,7 +20,7 @@ use Rattle.export_lists.specs.Reports.{outcome_lines, report}
 use Rattle.export_lists.specs.Slots.{Slot, Left, Over, first_slot, outcome_in, left_count, IsFirstSlot, IsSourceSlot, AreFirstSlots, IsTable, LeadsTo}
 use Rattle.export_lists.proofs.SlotLists.{outcomes_count, outcome_at_slot, left_here}
 use Rattle.export_lists.proofs.Tables.{there_or_not, none_past, table_first}
-use Rattle.export_lists.proofs.Loops.{taken, paired, zip_all}
+use Rattle.export_lists.proofs.Loops.{taken, paired, zip_ends}
 use Rattle.export_lists.proofs.OneSource.{one_source}
 
 -- the last of a list, and those before it
@@ -158,9 +158,9 @@ report_more project outcomes number found lt at text before after was now =
     ∙ flat_map_more (λ (u : Declared × Outcome). outcome_lines u.0.ident u.1) text (take number (zip project.units outcomes)) (u.0, found)
     ∙ ap (λ us. text ++ flat_map (λ (u : Declared × Outcome). outcome_lines u.0.ident u.1) us) (sym (taken (zip project.units outcomes) number (u.0, found) pair))
 
--- the whole report
-pub report_all : (project : ProjectView) (outcomes : List Outcome) (number : ℕ) (text : List ℕ) → unit_count project ≤ number → text ≡ flat_map (λ (u : Declared × Outcome). outcome_lines u.0.ident u.1) (take number (zip project.units outcomes)) → text ≡ report project outcomes
-report_all project outcomes number text le e = e ∙ ap (λ us. flat_map (λ (u : Declared × Outcome). outcome_lines u.0.ident u.1) us) (zip_all project.units outcomes number le)
+-- the whole report: either list has no more items
+pub report_all : (project : ProjectView) (outcomes : List Outcome) (number : ℕ) (text : List ℕ) → (unit_count project ≤ number) ⊎ (length outcomes ≤ number) → text ≡ flat_map (λ (u : Declared × Outcome). outcome_lines u.0.ident u.1) (take number (zip project.units outcomes)) → text ≡ report project outcomes
+report_all project outcomes number text le e = e ∙ ap (λ us. flat_map (λ (u : Declared × Outcome). outcome_lines u.0.ident u.1) us) (zip_ends project.units outcomes number le)
 
 -- lists with the same items are the same
 same_items : {X : Type 0} (xs ys : List X) → length xs ≡ length ys → ((k : ℕ) → k < length xs → slice_get xs k ≡ slice_get ys k) → xs ≡ ys

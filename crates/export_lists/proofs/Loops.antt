@@ -1,5 +1,5 @@
 -- What one item more adds.
-use Rattle.std.proofs.Common.{◌≡◌, ℕ, zero, suc, ◌+◌, ◌<◌, ◌≤◌, List, [], ◌∷◌, ◌++◌, length, take, drop, get_or, Some, ap, sym, ◌∙◌, refl, arith}
+use Rattle.std.proofs.Common.{◌≡◌, ℕ, zero, suc, ◌+◌, ◌<◌, ◌≤◌, List, [], ◌∷◌, ◌++◌, length, take, drop, get_or, Some, ap, sym, ◌∙◌, refl, arith, ◌⊎◌, inl, inr}
 use Rattle.std.specs.Prelude.{slice_get, zip, flat_map}
 use Rattle.std.specs.Borrow.{Bor}
 use Rattle.std.proofs.lemmas.Grind.{fold-append, flat_map-append}
@@ -57,6 +57,15 @@ zip_all [] ys k le = take_all k [] (omega arith)
 zip_all (x ∷ xs) [] k le = take_all k [] (omega arith)
 zip_all (x ∷ xs) (y ∷ ys) zero le = absurd (omega arith)
 zip_all (x ∷ xs) (y ∷ ys) (suc k) le = ap (λ zs. (x, y) ∷ zs) (zip_all xs ys k (omega arith))
+
+-- the same where either list has no more items
+pub zip_ends : {X Y : Type 0} (xs : List X) (ys : List Y) (k : ℕ) → (length xs ≤ k) ⊎ (length ys ≤ k) → take k (zip xs ys) ≡ zip xs ys
+zip_ends [] ys k le = take_all k [] (omega arith)
+zip_ends (x ∷ xs) [] k le = take_all k [] (omega arith)
+zip_ends (x ∷ xs) (y ∷ ys) zero (inl le) = absurd (omega (arith, le))
+zip_ends (x ∷ xs) (y ∷ ys) zero (inr le) = absurd (omega (arith, le))
+zip_ends (x ∷ xs) (y ∷ ys) (suc k) (inl le) = ap (λ zs. (x, y) ∷ zs) (zip_ends xs ys k (inl (omega (arith, le))))
+zip_ends (x ∷ xs) (y ∷ ys) (suc k) (inr le) = ap (λ zs. (x, y) ∷ zs) (zip_ends xs ys k (inr (omega (arith, le))))
 
 -- all imports were taken
 pub all_imported : (unit : UnitOf) (cmis : List Cmi) (k : ℕ) → length unit.imports ≤ k → take k (imported unit cmis) ≡ imported unit cmis

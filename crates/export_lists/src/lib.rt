@@ -52,5 +52,4 @@ pub use laws::{
 pub use listed::Listed;
 pub use listing::{Listing, list_project};
 pub use outcome::{Outcome, Verdict};
-pub use slots::built_count;
 pub use source::unit_for;

@@ -135,13 +135,16 @@ impl Listing {
     /// exports; `failed IDENT import NAME`; or `failed IDENT line LINE REASON`. Words are in canonical
     /// writing. The report is this project's own.
     ///
-    /// The project is the one that was listed. `Memory` may come for any project.
+    /// The project is the one that was listed: of another, the report has lines for as many units as
+    /// both have. `Memory` may come for any project.
     pub fn write(&self, alloc: Global, project: &Project) -> Result<Bytes, Memory>
-        requires { length self.now ≡ unit_count project.now }
         ensures { IfOk result (λ text. text ≡ report project.now self.now) }
     {
         let mut text = Text::new(alloc);
         for number in 0..project.unit_count() {
+            if number >= self.outcomes.len() {
+                return Ok(text);
+            }
             append_outcome(
                 alloc,
                 project.ident(number),

@@ -5,6 +5,7 @@ ghost use Rattle.std.specs.List.{list_all};
 ghost use Rattle.unit_registry.specs.Projects.{unit_count};
 
 use super::*;
+use crate::slots::built_count;
 use mm_outside::{List, Text};
 use module_lexer::SourceReason;
 use module_units::DeclKind::Struct;

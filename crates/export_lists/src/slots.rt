@@ -19,7 +19,7 @@ use unit_registry::Project;
 const MOST_OUTCOMES: usize = 2_147_483_648;
 
 /// How many units of the project were built before.
-pub fn built_count(project: &Project) -> u32
+pub(crate) fn built_count(project: &Project) -> u32
     ensures { result ≡ built_count project.now }
 {
     let mut count: u32 = 0;
