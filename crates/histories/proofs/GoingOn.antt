@@ -13,7 +13,7 @@ use Rattle.histories.specs.declared.answered.Answered.{Answered}
 use Rattle.histories.specs.declared.answered.Wait.{Wait}
 use Rattle.unit_registry.specs.Acts.{is_open_act, is_done, goes}
 use Rattle.unit_registry.specs.Projects.{ProjectView}
-use Rattle.histories.specs.Answered.{has_gone, is_open, wait_of, told_to_wait}
+use Rattle.histories.specs.Answered.{has_gone, is_open, wait_at, wait_of, told_to_wait}
 use Rattle.histories.specs.Noted.{Noted, answered_of, answered_at, fate, answer_by, answer_in, coming_reply, reply_in, ending, pending}
 use Rattle.histories.specs.Histories.{and_then, given_up, note, fault}
 use Rattle.histories.proofs.Members.{In, In-filter, In-filter_from}
@@ -74,7 +74,7 @@ pending_after project workers noted entry s =
     after = and_then project workers noted entry
 
 -- an entry that was told to wait is one of those
-slice_get-found : {A : Type 0} (y x : A) → (xs : List A) (k : ℕ) → slice_get (xs ++ y ∷ []) k ≡ Some x → ((k ≡ length xs) × (y ≡ x)) ⊎ (slice_get xs k ≡ Some x)
+pub slice_get-found : {A : Type 0} (y x : A) → (xs : List A) (k : ℕ) → slice_get (xs ++ y ∷ []) k ≡ Some x → ((k ≡ length xs) × (y ≡ x)) ⊎ (slice_get xs k ≡ Some x)
 slice_get-found y x [] zero h = inl (refl, cc)
 slice_get-found y x [] (suc k) h = absurd (cc)
 slice_get-found y x (z ∷ xs) zero h = inr h
@@ -84,9 +84,6 @@ pub in_waits : (said : Said) (w : Wait) (place conn : ℕ) (ws : List Wait) → 
 in_waits (Waits unit) w place conn ws h = inr h
 in_waits (Reply answer) w place conn ws h = h
 in_waits Nothing w place conn ws h = h
-
-abbrev wait_at : ℕ → ℕ → ℕ → Wait
-wait_at place conn unit = record { place = place; conn = conn; unit = unit }
 
 newest_waits : (said : Said) (unit place conn : ℕ) (ws : List Wait) → said ≡ Waits unit → In (wait_at place conn unit) (wait_of said place conn ws)
 newest_waits said unit place conn ws e = subst (λ (x : Said). In (wait_at place conn unit) (wait_of x place conn ws)) (sym e) (inl refl)

@@ -17,11 +17,11 @@ use Rattle.histories.specs.declared.standing.Who.TheVariants.{Nobody}
 use Rattle.histories.specs.Answered.{has_gone, was_opened, is_open, opened, open_connections, opened_count, open_count, done_count, reserved, who, accepted_hello, is_accepted}
 use Rattle.histories.specs.Noted.{Noted, answered_of}
 use Rattle.histories.specs.Histories.{and_then, noted_of, answered_in, fault, is_legal_after, IsLegal}
-use Rattle.histories.specs.Counts.{effect_of, ChangesOpened, ChangesOpen, ChangesDone, ChangesReserved, ChangesOwn}
+use Rattle.histories.specs.Counts.{Effect, Opens, Asks, Goes, Ends, effect_of, ChangesOpened, ChangesOpen, ChangesDone, ChangesReserved, ChangesOwn}
 use Rattle.histories.proofs.Members.{In, In-from_Contains, Contains-from_In}
 use Rattle.histories.proofs.OneEntry.{opened_in, is_open-parts}
 use Rattle.histories.proofs.Acyclic.{answered_entry}
-use Rattle.histories.proofs.Legality.{noted_more, noted_push, length-noted_of, legal_prefix, legal_last}
+use Rattle.histories.proofs.Legality.{noted_more, noted_push, length-noted_of, legal_split, legal_prefix, legal_last}
 use Rattle.histories.proofs.Stalls.{in_open, open_in}
 use Rattle.histories.proofs.Steps.{IsStanding, standing, standing-more, standing_first, opens_next, stands_open}
 use Rattle.histories.proofs.GoingOn.{filter_alike_in}
@@ -63,6 +63,38 @@ pub ends_fit : (project : ProjectView) (workers limit : ℕ) (history : List Ent
 ends_fit project workers limit history few legal =
     let fits = noted_fits project workers limit history few legal in
     let all = length-noted_of project workers history in
+    omega arith
+
+-- at most one of the ends that were reserved goes with an entry
+abbrev ReleasesOne : ℕ → ℕ → Type 0
+ReleasesOne before after = before ≤ after + 1
+
+by_effect : (effect : Effect) (before after : ℕ) → ChangesReserved effect before after → ReleasesOne before after
+by_effect Opens before after changed = omega (arith, changed)
+by_effect Asks before after changed = omega (arith, changed)
+by_effect Goes before after changed = omega (arith, changed)
+by_effect Ends before after changed = omega (arith, changed)
+
+-- the entries that were noted, and the ends that are still to come
+abbrev pub room_of : ℕ → List Noted → ℕ
+room_of workers noted = length noted + reserved workers (answered_of noted)
+
+pub room_after : (project : ProjectView) (workers limit : ℕ) → (entries : List Entry) (noted : List Noted) → is_legal_after project workers limit noted entries ≡ true → IsStanding project noted → HasWorkers workers noted → room_of workers noted ≤ room_of workers (fold (and_then project workers) noted entries)
+room_after project workers limit [] noted legal s enough = omega arith
+room_after project workers limit (entry ∷ entries) noted legal s enough =
+    let parts = and_parts (is_none (fault project workers limit noted entry)) _ legal in
+    let here = stands project workers limit noted entry s parts.0 in
+    let one = by_effect (effect_of entry.act) _ _ (changes_reserved project workers limit noted entry (effect_of entry.act) here enough) in
+    let rest = room_after project workers limit entries (and_then project workers noted entry) parts.1 (standing-more project workers limit noted entry parts.0 s) (workers-more project workers limit noted entry (effect_of entry.act) here enough) in
+    omega arith
+
+pub room_is_used_up : (project : ProjectView) (workers limit : ℕ) (history more : List Entry) → IsLegal project workers limit (history ++ more) → length history + reserved workers (answered_in project workers history) ≤ length (history ++ more) + reserved workers (answered_in project workers (history ++ more))
+room_is_used_up project workers limit history more legal =
+    let parts = legal_split project workers limit more history [] legal in
+    let grows = room_after project workers limit more (noted_of project workers history) parts.1 (standing project workers limit history parts.0) (enough_workers project workers limit history parts.0) in
+    let same : room_of workers (fold (and_then project workers) (noted_of project workers history) more) ≡ room_of workers (noted_of project workers (history ++ more)) = ap (room_of workers) (sym (noted_more project workers history more)) in
+    let before = length-noted_of project workers history in
+    let after = length-noted_of project workers (history ++ more) in
     omega arith
 
 -- ---- one more legal entry

@@ -16,3 +16,8 @@ pub mod Coming
 pub mod ReplyLaws
 pub mod NoReply
 pub mod Reports
+pub mod Places
+pub mod Fates
+pub mod Told
+pub mod Unanswered
+pub mod Pauses

@@ -1,14 +1,10 @@
--- Membership by recursion on the list, beside std's `Contains`, and what filters keep.
-use Rattle.std.proofs.Common.{◌≡◌, ◌⊎◌, ℕ, zero, suc, ◌<◌, Bool, true, inl, inr, List, [], ◌∷◌, ◌++◌, reverse, length, map, filter, filter_map, get_or, Contains, Option, Some, None, refl, sym, ap, subst, ◌∙◌, arith}
+-- Membership by recursion on the list against std's `Contains`, and what filters and maps keep.
+use Rattle.std.proofs.Common.{◌≡◌, ℕ, zero, suc, ◌<◌, Bool, true, inl, inr, List, [], ◌∷◌, ◌++◌, reverse, length, map, filter, filter_map, get_or, Contains, Option, Some, None, refl, sym, ap, subst, ◌∙◌, arith}
 use Rattle.std.proofs.lemmas.List.{reverse-append}
 use Rattle.std.proofs.lemmas.List.Elements.{Contains-append_left, Contains-append_right}
 use Rattle.std.specs.List.{list_any, cons_option}
+pub use Rattle.histories.specs.Members.{In}
 use Rattle.wait_graph.proofs.Members.{Contains-filter, Contains-filter_from, any_to as any_contained, any_from as any_of_contained}
-
--- the element stands in the list
-abbrev pub In : {A : Type 0} → A → List A → Type 0
-In x [] = ⊥
-In x (y ∷ ys) = (y ≡ x) ⊎ In x ys
 
 pub In-at : {A : Type 0} (x : A) → (xs : List A) (k : ℕ) → k < length xs → get_or xs k x ≡ x → In x xs
 In-at x [] k below e = absurd (omega arith)

@@ -32,19 +32,19 @@ compiled_rows true true false false h = absurd (true≢false (sym h))
 compiled_rows true true false true h = (refl, refl, refl)
 
 -- the connection holds the unit, which was exported and not reported
-record IsReport (answered : List Answered) (conn unit : ℕ) : Type 0 where
-  held : holds answered conn unit ≡ true
-  not_reported : is_reported answered unit ≡ false
-  exported : is_exported answered unit ≡ true
+pub record IsReport (answered : List Answered) (conn unit : ℕ) : Type 0 where
+  pub held : holds answered conn unit ≡ true
+  pub not_reported : is_reported answered unit ≡ false
+  pub exported : is_exported answered unit ≡ true
 
-report_row : (project : ProjectView) (noted : List Noted) (conn : ℕ) (act : Act) (unit : ℕ) → is_accepted (at_once project noted conn act) ≡ true → is_compiled_of unit act ≡ true → IsReport (answered_of noted) conn unit
+pub report_row : (project : ProjectView) (noted : List Noted) (conn : ℕ) (act : Act) (unit : ℕ) → is_accepted (at_once project noted conn act) ≡ true → is_compiled_of unit act ≡ true → IsReport (answered_of noted) conn unit
 report_row project noted conn (Compiled None stored) unit accepted of_unit = absurd (true≢false (sym of_unit))
 report_row project noted conn (Compiled (Some named) stored) unit accepted of_unit =
     let rows = compiled_rows (is_connected (answered_of noted) conn) (holds (answered_of noted) conn named) (is_reported (answered_of noted) named) (is_exported (answered_of noted) named) accepted in
     subst (λ u. IsReport (answered_of noted) conn u) (eqb-true named unit of_unit) (record { held = rows.0; not_reported = rows.1; exported = rows.2 })
 report_row project noted conn act unit accepted of_unit = absurd (true≢false (sym of_unit))
 
-holder_is : (one : Who) (unit : ℕ) → is_holder_of one unit ≡ true → one ≡ Holder unit
+pub holder_is : (one : Who) (unit : ℕ) → is_holder_of one unit ≡ true → one ≡ Holder unit
 holder_is (Holder held) unit h = ap (λ u. Holder u) (eqb-true held unit h)
 holder_is Nobody unit h = absurd (true≢false (sym h))
 holder_is Guest unit h = absurd (true≢false (sym h))

@@ -119,9 +119,13 @@ stores unit entry = is_accepted entry.said && names (stored_unit entry.act) unit
 abbrev pub is_stored : List Answered → ℕ → Bool
 is_stored answered unit = list_any (stores unit) answered
 
+-- the import at the place, of the connection, waits for the unit
+abbrev pub wait_at : ℕ → ℕ → ℕ → Wait
+wait_at place conn unit = record { place = place; conn = conn; unit = unit }
+
 -- these waits, with the one that is told with the entry
 abbrev pub wait_of : Said → ℕ → ℕ → List Wait → List Wait
-wait_of (Waits unit) place conn waits = record { place = place; conn = conn; unit = unit } ∷ waits
+wait_of (Waits unit) place conn waits = wait_at place conn unit ∷ waits
 wait_of _ place conn waits = waits
 
 -- the imports that were told to wait

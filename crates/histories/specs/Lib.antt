@@ -1,3 +1,4 @@
+pub mod Members
 pub mod Reasons
 pub mod Entries
 pub mod Answered

@@ -1,28 +1,35 @@
 //! Laws of histories, as the contracts of functions that do nothing.
 
-ghost use Rattle.std.specs.Prelude.{◌≡◌, ◌≢◌, ◌↔◌, ◌||◌, ◌+◌, ◌<◌, ◌≤◌, ℕ, List, [], ◌∷◌, ◌++◌, length, All, Contains, count_by, Some, None, is_none, IsTrue, IsFalse};
+ghost use Rattle.std.specs.Prelude.{◌≡◌, ◌≢◌, ◌↔◌, ◌||◌, ◌+◌, ◌<◌, ◌≤◌, ℕ, Bool, List, [], ◌∷◌, ◌++◌, length, map, slice_get, All, Contains, count_by, false, Some, None, is_some, is_none, IsTrue, IsFalse};
 ghost use Rattle.std.specs.List.{range_with_len};
 ghost use Rattle.wait_graph.specs.Walks.{IsAcyclic};
-ghost use Rattle.unit_registry.specs.Acts.{is_open_act, is_done, is_compiled_of};
+ghost use Rattle.unit_registry.specs.declared.act.Act.TheVariants.{Import};
+ghost use Rattle.mapper_replies.specs.declared.refusal.Refusal.TheVariants.{UnitFailed};
+ghost use Rattle.unit_registry.specs.Acts.{is_open_act, is_pause, is_done, is_compiled_of};
 ghost use Rattle.unit_registry.specs.Projects.{ProjectView, is_built};
 ghost use Rattle.histories.specs.declared.entry.Entry.{Entry};
 ghost use Rattle.histories.specs.declared.answer.Answer.{Answer};
+ghost use Rattle.histories.specs.declared.answer.Answer.TheVariants.{Path, Refused};
 ghost use Rattle.histories.specs.declared.answered.Answered.{Answered};
 ghost use Rattle.histories.specs.declared.answered.Wait.{Wait};
 ghost use Rattle.histories.specs.declared.illegal_reason.IllegalReason.{IllegalReason};
 ghost use Rattle.histories.specs.declared.standing.Fate.{Fate};
+ghost use Rattle.histories.specs.declared.standing.Fate.TheVariants.{Compiled, Failed};
 ghost use Rattle.histories.specs.declared.standing.Who.TheVariants.{Nobody};
-ghost use Rattle.histories.specs.Answered.{was_opened, has_gone, is_open, open_connections, opened_count, open_count, done_count, reserved, is_paused, who, holder, is_accepted, is_reported, stores, is_stored, told_to_wait};
+ghost use Rattle.histories.specs.Answered.{was_opened, has_gone, is_open, open_connections, opened_count, open_count, done_count, reserved, is_paused, who, holder, is_accepted, is_reported, stores, is_stored, wait_at, told_to_wait};
 ghost use Rattle.histories.specs.Noted.{fate, pending, waits, answer_in, answer_by};
 ghost use Rattle.histories.specs.Answers.{at_once, IsFirstReport};
 ghost use Rattle.histories.specs.Histories.{noted_of, answered_in, and_then, reply, with_said, asks_nothing, is_waiting, fault, first_fault, IsLegal, IsFirstFault};
 ghost use Rattle.histories.specs.Counts.{effect_of, ChangesOpened, ChangesOpen, ChangesDone, ChangesReserved, ChangesOwn, MayCome};
 
-/// A reply that has come stays, whatever is entered after it.
+/// A reply that has come stays, whatever is entered after it. So do those of a list of places that all have one.
 pub fn replies_stay()
-    ensures { (project : ProjectView) (workers : ℕ) (history more : List Entry) (place : ℕ) (answer : Answer)
+    ensures one { (project : ProjectView) (workers : ℕ) (history more : List Entry) (place : ℕ) (answer : Answer)
         → reply project workers history place ≡ Some answer
         → reply project workers (history ++ more) place ≡ Some answer }
+    ensures all { (project : ProjectView) (workers : ℕ) (history more : List Entry) (places : List ℕ)
+        → All (λ place. IsTrue (is_some (reply project workers history place))) places
+        → map (reply project workers (history ++ more)) places ≡ map (reply project workers history) places }
 {}
 
 /// A reply comes with its request's own entry, or, where that was told to wait, with the entry after which
@@ -48,6 +55,52 @@ pub fn replies_come()
         → IsTrue (has_gone (answered_in project workers history) wait.conn)
         → fate project (noted_of project workers history) wait.unit ≡ None
         → reply project workers (history ++ more) wait.place ≡ None }
+{}
+
+/// A request of an open connection that has no reply waits: it is an import of a unit, not for its name alone, and
+/// stands among those that wait. So its connection has an import that waits.
+pub fn unanswered_wait()
+    ensures request { (project : ProjectView) (workers : ℕ) (history : List Entry) (place : ℕ) (entry : Entry)
+        → slice_get history place ≡ Some entry → IsFalse (asks_nothing entry.act)
+        → IsTrue (is_open (answered_in project workers history) entry.conn)
+        → reply project workers history place ≡ None
+        → (unit : ℕ) × (entry.act ≡ Import (Some unit) false)
+        × Contains (pending project (noted_of project workers history)) (wait_at place entry.conn unit) }
+    ensures conn { (project : ProjectView) (workers : ℕ) (history : List Entry) (place : ℕ) (entry : Entry)
+        → slice_get history place ≡ Some entry → IsFalse (asks_nothing entry.act)
+        → IsTrue (is_open (answered_in project workers history) entry.conn)
+        → reply project workers history place ≡ None
+        → IsTrue (is_waiting project (noted_of project workers history) entry.conn) }
+{}
+
+/// An import that is answered by a path is answered by its own unit's. Where it isn't for the name alone, its unit is
+/// compiled then, and one that is answered that its unit has failed has a unit that failed.
+pub fn replies_tell_fates()
+    ensures path { (project : ProjectView) (workers : ℕ) (history : List Entry) (place : ℕ) (entry : Entry)
+        (unit path : ℕ) (name_only : Bool)
+        → slice_get history place ≡ Some entry → entry.act ≡ Import (Some unit) name_only
+        → reply project workers history place ≡ Some (Path path) → path ≡ unit }
+    ensures compiled { (project : ProjectView) (workers : ℕ) (history : List Entry) (place : ℕ) (entry : Entry)
+        (unit path : ℕ)
+        → slice_get history place ≡ Some entry → entry.act ≡ Import (Some unit) false
+        → reply project workers history place ≡ Some (Path path)
+        → fate project (noted_of project workers history) unit ≡ Some Compiled }
+    ensures failed { (project : ProjectView) (workers limit : ℕ) (history : List Entry)
+        → IsLegal project workers limit history → (place : ℕ) (entry : Entry) (unit : ℕ)
+        → slice_get history place ≡ Some entry → entry.act ≡ Import (Some unit) false
+        → reply project workers history place ≡ Some (Refused UnitFailed)
+        → fate project (noted_of project workers history) unit ≡ Some Failed }
+{}
+
+/// How a unit has ended stays as a legal history goes on. A unit that is compiled stays so whatever is entered.
+pub fn fates_stay()
+    ensures ended { (project : ProjectView) (workers limit : ℕ) (history more : List Entry)
+        → IsLegal project workers limit (history ++ more) → (unit : ℕ) (end : Fate)
+        → fate project (noted_of project workers history) unit ≡ Some end
+        → fate project (noted_of project workers (history ++ more)) unit ≡ Some end }
+    ensures compiled { (project : ProjectView) (workers : ℕ) (history more : List Entry) (unit : ℕ)
+        → fate project (noted_of project workers history) unit ≡ Some Compiled
+        → fate project (noted_of project workers (history ++ more)) unit ≡ Some Compiled }
 {}
 
 /// An import that was told to wait, and whose connection is open, has no reply exactly where its unit
@@ -129,6 +182,15 @@ pub fn ends_fit()
         → length history + reserved workers (answered_in project workers history) ≤ limit }
 {}
 
+/// The entries of a legal history and the ends that are still to come are together never fewer as it goes on: an end
+/// that was still to come is an entry once it has come.
+pub fn room_is_used_up()
+    ensures { (project : ProjectView) (workers limit : ℕ) (history more : List Entry)
+        → IsLegal project workers limit (history ++ more)
+        → length history + reserved workers (answered_in project workers history)
+        ≤ length (history ++ more) + reserved workers (answered_in project workers (history ++ more)) }
+{}
+
 /// What one more legal entry does to the counts goes by the kind of its act.
 pub fn one_more_entry()
     ensures opened { (project : ProjectView) (workers limit : ℕ) (history : List Entry) (entry : Entry)
@@ -162,6 +224,16 @@ pub fn open_under_entries()
         → IsLegal project workers limit (history ++ entry ∷ [])
         → ChangesOwn (effect_of entry.act) (is_open (answered_in project workers history) entry.conn)
         (is_open (answered_in project workers (history ++ entry ∷ [])) entry.conn) }
+{}
+
+/// A connection has paused after its entry where that is a Pause. Entries of others leave it so, or not so.
+pub fn paused_under_entries()
+    ensures own { (project : ProjectView) (workers : ℕ) (history : List Entry) (entry : Entry)
+        → is_paused (answered_in project workers (history ++ entry ∷ [])) entry.conn ≡ is_pause entry.act }
+    ensures others { (project : ProjectView) (workers : ℕ) (history more : List Entry) (conn : ℕ)
+        → All (λ entry. entry.conn ≢ conn) more
+        → is_paused (answered_in project workers (history ++ more)) conn
+        ≡ is_paused (answered_in project workers history) conn }
 {}
 
 /// Connections are numbered as they open: each entry but a Done is of one that opened, and the next

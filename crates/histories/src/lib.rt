@@ -23,9 +23,10 @@ pub use answered::{Answered, Wait};
 pub use entry::Entry;
 pub use illegal_reason::IllegalReason;
 pub use laws::{
-    connection_numbers, ends_fit, entries_counted, entries_may_come, first_fault_decides,
-    items_stored, legal_entries, one_more_entry, open_connections_counted, open_under_entries,
-    replies_come, replies_stay, reported_once, someone_goes_on, waits_are_acyclic,
+    connection_numbers, ends_fit, entries_counted, entries_may_come, fates_stay,
+    first_fault_decides, items_stored, legal_entries, one_more_entry, open_connections_counted,
+    open_under_entries, paused_under_entries, replies_come, replies_stay, replies_tell_fates,
+    reported_once, room_is_used_up, someone_goes_on, unanswered_wait, waits_are_acyclic,
     waits_until_ended,
 };
 pub use standing::{Fate, Who};

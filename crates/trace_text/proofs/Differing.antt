@@ -8,7 +8,8 @@ use Rattle.histories.specs.declared.entry.Entry.{Entry}
 use Rattle.trace_text.specs.declared.lines.BodyLine.{BodyLine}
 use Rattle.trace_text.specs.declared.lines.BodyLine.TheVariants as body
 use Rattle.mapper_requests.specs.Numbers.{IsNumber}
-use Rattle.trace_text.specs.Texts.{head_words, end_words, entry_line, head_line, end_line, trace_lines, trace, IsTraceEntry, HasTrace}
+use Rattle.histories.specs.Entries.{IsTraceEntry}
+use Rattle.trace_text.specs.Texts.{head_words, end_words, entry_line, head_line, end_line, trace_lines, trace, HasTrace}
 use Rattle.trace_text.specs.Working.{words_in, body_line}
 use Rattle.trace_text.proofs.Spelled.{decimal_same}
 use Rattle.trace_text.proofs.Free.{end_free, head_free, spaced_free, words_back, AreLines, lines_back}

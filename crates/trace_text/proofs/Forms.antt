@@ -8,12 +8,12 @@ use Rattle.unit_registry.specs.declared.act.Act.{Act}
 use Rattle.unit_registry.specs.declared.act.Act.TheVariants.{Open, Hello, Repo, Export, Import, Compiled, Translate, Bad, Pause, Left, Lost, Done}
 use Rattle.unit_registry.specs.Acts.{is_done}
 use Rattle.histories.specs.declared.entry.Entry.{Entry}
-use Rattle.histories.specs.Entries.{no_connection, has_its_unit, has_its_connection}
+use Rattle.histories.specs.Entries.{no_connection, has_its_unit, has_its_connection, IsTraceEntry}
 use Rattle.trace_text.specs.declared.lines.Head.{Head}
 use Rattle.trace_text.specs.declared.lines.BodyLine.{BodyLine}
 use Rattle.trace_text.specs.declared.lines.BodyLine.TheVariants as body
 use Rattle.mapper_requests.specs.Numbers.{IsNumber}
-use Rattle.trace_text.specs.Texts.{name_word, ident_word, act_words, entry_words, head_words, end_words, most_workers, greatest_limit, IsTraceEntry, IsHead}
+use Rattle.trace_text.specs.Texts.{name_word, ident_word, act_words, entry_words, head_words, end_words, most_workers, greatest_limit, IsHead}
 use Rattle.trace_text.specs.Working.{number_in, unit_in, if_conn, lone_act, paired_act, hello_by, hello_act, entry_by, done_entry, short_entry, as_entry, short_line, body_line, is_head, head_by, head_of}
 use Rattle.trace_text.proofs.Spelled.{some_same, none_some, map_is, bytes_same, number_in-is, number_in-back, not_number, unit_in-back, no_name, no_ident, no_dash, no_end_word, conn_is, conn_small, conn_back, Spells, lone_is, paired_is, hello_is}
 

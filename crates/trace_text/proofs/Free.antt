@@ -19,9 +19,9 @@ use Rattle.unit_registry.specs.declared.act.Act.{Act}
 use Rattle.unit_registry.specs.declared.act.Act.TheVariants.{Open, Hello, Repo, Export, Import, Compiled, Translate, Bad, Pause, Left, Lost, Done}
 use Rattle.unit_registry.specs.Acts.{is_done}
 use Rattle.histories.specs.declared.entry.Entry.{Entry}
-use Rattle.histories.specs.Entries.{no_connection}
+use Rattle.histories.specs.Entries.{no_connection, HasNumbers, IsTraceEntry}
 use Rattle.mapper_requests.specs.Numbers.{IsNumber}
-use Rattle.trace_text.specs.Texts.{unit_word, act_words, conn_word, entry_words, head_words, end_words, spaced, ended, HasNumbers, IsTraceEntry}
+use Rattle.trace_text.specs.Texts.{unit_word, act_words, conn_word, entry_words, head_words, end_words, spaced, ended}
 use Rattle.trace_text.specs.Working.{is_octet, words_in}
 use Rattle.trace_text.proofs.Spelled.{none_some, conn_small}
 

@@ -16,7 +16,8 @@ use Rattle.trace_text.specs.declared.reason.TraceReason.TheVariants.{Syntax, Wro
 use Rattle.trace_text.specs.declared.reason.TraceError.{TraceError}
 use Rattle.trace_text.specs.declared.reason.TraceError.TheVariants.{Text, Memory}
 use Rattle.mapper_requests.specs.Numbers.{IsNumber}
-use Rattle.trace_text.specs.Texts.{conn_word, act_words, entry_words, head_words, end_words, entry_line, head_line, end_line, ended, first_lines, trace_lines, trace, IsTraceEntry, IsHead}
+use Rattle.histories.specs.Entries.{IsTraceEntry}
+use Rattle.trace_text.specs.Texts.{conn_word, act_words, entry_words, head_words, end_words, entry_line, head_line, end_line, ended, first_lines, trace_lines, trace, IsHead}
 use Rattle.trace_text.specs.Faults.{IsTraceText, Begins, IsNoHeadLine, IsNoBodyLine, IsFaultyBehind, IsFault, TellsFault}
 use Rattle.trace_text.specs.Working.{words_in, body_line, head_of}
 use Rattle.trace_text.specs.Reading.{Fault, fault_at, if_last, with_entry, take_line, read_behind, begun, read_body, read_lines, reading, Answers}

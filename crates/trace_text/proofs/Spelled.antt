@@ -13,9 +13,9 @@ use Rattle.mapper_requests.proofs.Digits.{number_back}
 use Rattle.unit_registry.specs.declared.act.Act.{Act}
 use Rattle.unit_registry.specs.declared.act.Act.TheVariants.{Open, Repo, Export, Import, Compiled, Translate, Bad, Pause, Left, Lost}
 use Rattle.unit_registry.specs.Acts.{is_done}
-use Rattle.histories.specs.Entries.{no_connection, has_its_unit}
+use Rattle.histories.specs.Entries.{no_connection, has_its_unit, HasNumbers}
 use Rattle.mapper_requests.specs.Numbers.{IsNumber}
-use Rattle.trace_text.specs.Texts.{unit_word, name_word, header_word, cause_word, act_words, HasNumbers}
+use Rattle.trace_text.specs.Texts.{unit_word, name_word, header_word, cause_word, act_words}
 use Rattle.trace_text.specs.Working.{as_written, number_in, unit_in, if_conn, header_in, cause_in, Row, row, act_by, LONE, PAIRED, lone_act, paired_act, hello_by, hello_act}
 
 -- ---- options

@@ -7,7 +7,8 @@ use Rattle.trace_text.specs.declared.reason.TraceReason.TheVariants.{Syntax, Wro
 use Rattle.trace_text.specs.declared.reason.TraceError.{TraceError}
 use Rattle.trace_text.specs.declared.reason.TraceError.TheVariants.{Text, Memory}
 use Rattle.mapper_requests.specs.Numbers.{IsNumber}
-use Rattle.trace_text.specs.Texts.{entry_line, head_line, end_line, ended, first_lines, trace, IsTraceEntry, IsHead}
+use Rattle.histories.specs.Entries.{IsTraceEntry}
+use Rattle.trace_text.specs.Texts.{entry_line, head_line, end_line, ended, first_lines, trace, IsHead}
 
 -- The text is that of a trace, with or without its last NEWLINE.
 pub record IsTraceText (text : List ℕ) (workers limit : ℕ) (entries : List Entry) : Type 0 where

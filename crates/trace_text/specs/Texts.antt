@@ -9,7 +9,7 @@ use Rattle.unit_registry.specs.declared.act.Act.{Act}
 use Rattle.unit_registry.specs.declared.act.Act.TheVariants.{Open, Hello, Repo, Export, Import, Compiled, Translate, Bad, Pause, Left, Lost, Done}
 use Rattle.unit_registry.specs.Acts.{is_done}
 use Rattle.histories.specs.declared.entry.Entry.{Entry}
-use Rattle.histories.specs.Entries.{IsEntry}
+use Rattle.histories.specs.Entries.{IsTraceEntry}
 
 -- ---- words
 
@@ -117,19 +117,6 @@ abbrev pub trace : ℕ → ℕ → List Entry → List ℕ
 trace workers limit entries = flat_map ended (trace_lines workers limit entries)
 
 -- ---- what may be written
-
--- the version and the unit of an act are numbers of a trace
-abbrev pub HasNumbers : Act → Type 0
-HasNumbers (Hello version unit) = IsNumber version × IfSome unit IsNumber
-HasNumbers (Export unit) = IfSome unit IsNumber
-HasNumbers (Import unit name_only) = IfSome unit IsNumber
-HasNumbers (Compiled unit stored) = IfSome unit IsNumber
-HasNumbers act = Unit {0}
-
--- an entry of a trace
-pub record IsTraceEntry (entry : Entry) : Type 0 where
-  pub is_entry : IsEntry entry
-  pub numbers : HasNumbers entry.act
 
 -- the most workers
 abbrev pub most_workers : ℕ
