@@ -1,7 +1,7 @@
 -- What follows from the calls of a desk.
-use Rattle.std.proofs.Common.{◌≡◌, ◌≢◌, ◌⊎◌, inl, inr, ℕ, zero, suc, ◌+◌, ◌<◌, Bool, true, List, [], ◌∷◌, ◌++◌, length, fold, Contains, Some, refl, sym, ap, subst, ◌∙◌, arith, append-nil}
+use Rattle.std.proofs.Common.{◌≡◌, ◌≢◌, ◌⊎◌, inl, inr, ℕ, zero, suc, ◌+◌, ◌<◌, Bool, true, List, [], ◌∷◌, ◌++◌, length, fold, get_or, Contains, Some, refl, sym, ap, subst, ◌∙◌, arith, append-nil}
 use Rattle.std.proofs.lemmas.List.{append_assoc}
-use Rattle.std.proofs.lemmas.List.Elements.{All-contains, Contains-append_left, Contains-push, Contains-push_cases}
+use Rattle.std.proofs.lemmas.List.Elements.{All-nil, All-cons, All-append, All-contains, Contains-append_left, Contains-push, Contains-push_cases}
 use Rattle.std.proofs.lemmas.Option.{slice_get_within}
 use Rattle.std.specs.Prelude.{slice_get}
 use Rattle.unit_registry.specs.Projects.{ProjectView}
@@ -17,7 +17,7 @@ use Rattle.histories.proofs.LegalCounts.{own_with}
 use Rattle.histories.proofs.Passing.{other_open}
 use Rattle.histories.proofs.Stay.{replies_stay}
 use Rattle.registry_core.specs.Ledgers.{LedgerView, is_open_in, reply_at}
-use Rattle.registry_core.specs.Desks.{DeskState, Stays, Looks, Adds, IsSound, GoesOn, connections_with}
+use Rattle.registry_core.specs.Desks.{DeskState, Stays, Looks, Adds, IsSound, GoesOn, GoesOnFor, IsEntryOf, connections_with}
 
 -- ---- lists
 
@@ -134,6 +134,12 @@ stays_open Ends was now (inr e) h = absurd (cc)
 pub adds_is_open : {Held : Type 0} (before after : DeskState Held) (newest : Entry) (place : ℕ) → IsSound after → Adds before newest place after → (effect_of newest.act ≡ Opens) ⊎ (effect_of newest.act ≡ Asks) → is_open_in after.seen newest.conn ≡ true
 adds_is_open before after newest place now adds kind = stays_open (effect_of newest.act) _ (is_open_in after.seen newest.conn) kind (adds_own_open before after newest place now adds)
 
+-- an entry that the desk makes stands at its place
+pub adds_at : {Held : Type 0} (before after : DeskState Held) (newest : Entry) (place : ℕ) → Adds before newest place after → slice_get after.seen.entries place ≡ Some newest
+adds_at before after newest place adds =
+    ap (λ (es : List Entry). slice_get es place) adds.history
+    ∙ slice_get_behind (before.seen.entries ++ adds.since) (newest ∷ []) 0 place (let q : place ≡ length (before.seen.entries ++ adds.since) = adds.place_is in omega arith)
+
 -- ---- calls one after the other
 
 pub stays_same : {Held : Type 0} (desk : DeskState Held) → Stays desk desk
@@ -181,6 +187,44 @@ goes_on_further first second third s t = record {
   stays = stays_further first second third s.stays t.stays;
 }
 
+pub looks_go_on_for : {Held : Type 0} (conn : ℕ) (before after : DeskState Held) → Looks before after → GoesOnFor conn before after
+looks_go_on_for conn before after looks = record { since = looks.since; history = looks.history; own = []; places = looks.places ∙ sym (append-nil before.places); of_conn = All-nil (IsEntryOf conn after.seen.entries); connections = looks.connections; stays = looks.stays }
+
+same_connections : (effect : Effect) (conn : ℕ) (connections : List ℕ) → effect ≢ Opens → connections_with effect conn connections ≡ connections
+same_connections Opens conn connections apart = absurd (apart refl)
+same_connections Asks conn connections apart = refl
+same_connections Goes conn connections apart = refl
+same_connections Ends conn connections apart = refl
+
+-- an entry of the connection that opens none
+pub adds_go_on_for : {Held : Type 0} (conn : ℕ) (before after : DeskState Held) (newest : Entry) (place : ℕ) → Adds before newest place after → newest.conn ≡ conn → effect_of newest.act ≢ Opens → GoesOnFor conn before after
+adds_go_on_for conn before after newest place adds of_conn apart =
+    record { since = adds.since ++ newest ∷ []; history = adds.history ∙ append_assoc before.seen.entries adds.since (newest ∷ []); own = place ∷ []; places = adds.places; of_conn = All-cons (IsEntryOf conn after.seen.entries) place [] own (All-nil (IsEntryOf conn after.seen.entries)); connections = adds.connections ∙ same_connections (effect_of newest.act) newest.conn before.connections apart; stays = adds.stays }
+  where
+    own : IsEntryOf conn after.seen.entries place
+    own = record { act = newest.act; there = adds_at before after newest place adds ∙ ap (λ (c : ℕ). Some (let e : Entry = record { conn = c; act = newest.act } in e)) of_conn }
+
+entry_stays : (conn : ℕ) (entries since : List Entry) (place : ℕ) → IsEntryOf conn entries place → IsEntryOf conn (entries ++ since) place
+entry_stays conn entries since place is = record { act = is.act; there = slice_get_before entries since place (record { conn = conn; act = is.act }) is.there }
+
+pub goes_on_for_further : {Held : Type 0} (conn : ℕ) (first second third : DeskState Held) → GoesOnFor conn first second → GoesOnFor conn second third → GoesOnFor conn first third
+goes_on_for_further conn first second third s t = record {
+  since = s.since ++ t.since;
+  history = t.history ∙ ap (λ (es : List Entry). es ++ t.since) s.history ∙ append_assoc first.seen.entries s.since t.since;
+  own = s.own ++ t.own;
+  places = t.places ∙ ap (λ (ps : List ℕ). ps ++ t.own) s.places ∙ append_assoc first.places s.own t.own;
+  of_conn = All-append (IsEntryOf conn third.seen.entries) s.own t.own (λ k d below. subst (λ (es : List Entry). IsEntryOf conn es (get_or s.own k d)) (sym t.history) (entry_stays conn second.seen.entries t.since (get_or s.own k d) (s.of_conn k d below))) t.of_conn;
+  connections = t.connections ∙ s.connections;
+  stays = stays_further first second third s.stays t.stays;
+}
+
+pub goes_on_for_same : {Held : Type 0} (conn : ℕ) (desk : DeskState Held) → GoesOnFor conn desk desk
+goes_on_for_same conn desk = record { since = []; history = sym (append-nil desk.seen.entries); own = []; places = sym (append-nil desk.places); of_conn = All-nil (IsEntryOf conn desk.seen.entries); connections = refl; stays = stays_same desk }
+
+-- calls for one connection are calls
+pub goes_on_by : {Held : Type 0} (conn : ℕ) (before after : DeskState Held) → GoesOnFor conn before after → GoesOn before after
+goes_on_by conn before after goes = record { since = goes.since; history = goes.history; more_places = goes.own; places = goes.places; more_connections = []; connections = goes.connections ∙ sym (append-nil before.connections); stays = goes.stays }
+
 pub looks_further : {Held : Type 0} (first second third : DeskState Held) → Looks first second → Looks second third → Looks first third
 looks_further first second third s t = record {
   since = s.since ++ t.since;
@@ -194,12 +238,6 @@ looks_further first second third s t = record {
 }
 
 -- ---- what stays
-
--- an entry that the desk makes stands at its place
-pub adds_at : {Held : Type 0} (before after : DeskState Held) (newest : Entry) (place : ℕ) → Adds before newest place after → slice_get after.seen.entries place ≡ Some newest
-adds_at before after newest place adds =
-    ap (λ (es : List Entry). slice_get es place) adds.history
-    ∙ slice_get_behind (before.seen.entries ++ adds.since) (newest ∷ []) 0 place (let q : place ≡ length (before.seen.entries ++ adds.since) = adds.place_is in omega arith)
 
 -- a reply that has come stays
 pub reply_stays : {Held : Type 0} (before after : DeskState Held) → GoesOn before after → (place : ℕ) (answer : Answer) → reply_at before.seen place ≡ Some answer → reply_at after.seen place ≡ Some answer

@@ -1,7 +1,7 @@
 -- What a shelf keeps, after one more entry of the history beside it.
 use Rattle.std.proofs.Common.{◌≡◌, ℕ, ◌<◌, ◌≤◌, Bool, true, false, not, ◌||◌, ◌&&◌, inl, inr, List, [], ◌∷◌, ◌++◌, length, Option, Some, None, is_some, IfSome, refl, sym, ap, ap₂, subst, ◌∙◌, true≢false}
 use Rattle.std.proofs.lemmas.Bool.{or_cases, or_left, or_right, and_parts, and_right, false_from_ne_true, both_ways}
-use Rattle.std.specs.Prelude.{if◌then◌else◌, Result, Ok, Err, IfOk, IfErr}
+use Rattle.std.specs.Prelude.{if◌then◌else◌, Result, Ok, Err, IfOk}
 use Rattle.unit_registry.specs.declared.act.Act.{Act}
 use Rattle.unit_registry.specs.declared.act.Act.TheVariants.{Compiled}
 use Rattle.unit_registry.specs.Acts.{names, is_compiled_of}
@@ -18,10 +18,9 @@ use Rattle.histories.specs.Histories.{noted_of, with_said, is_out_of_range}
 use Rattle.histories.proofs.Legality.{noted_push}
 use Rattle.histories.proofs.ReplyLaws.{reply_own}
 use Rattle.histories.proofs.Reports.{reported_first, stored_reported}
-use Rattle.registry_core.specs.declared.full.Full.{Full}
 use Rattle.registry_core.specs.declared.leaving.Leaving.{Leaving}
 use Rattle.registry_core.specs.declared.leaving.Leaving.TheVariants.{Left as AsLeft, Lost as AsLost}
-use Rattle.registry_core.specs.Ledgers.{LedgerView, Appends, said_in, said_to, with_entry, entry, leaving, reply_at}
+use Rattle.registry_core.specs.Ledgers.{LedgerView, said_in, said_to, with_entry, entry, leaving, reply_at}
 use Rattle.registry_core.specs.Shelves.{ComesWith, kept_after, is_done_answer}
 use Rattle.registry_core.specs.Books.{KeepsItems}
 use Rattle.registry_core.proofs.Ready.{range_by}
@@ -139,10 +138,8 @@ keeps_on ledger newest units kept none keeps = record {
     new : Answered
     new = with_said newest (said_to ledger newest.conn newest.act)
 
--- the same, by what a call tells
-pub keeps_appended : (before after : LedgerView) (newest : Entry) (units : ℕ) (kept : ℕ → Bool) → stored_unit newest.act ≡ None → KeepsItems before units kept → Appends before newest after → KeepsItems after units kept
-keeps_appended before after newest units kept none keeps appends = subst (λ (ledger : LedgerView). KeepsItems ledger units kept) (sym appends.appended) (keeps_on before newest units kept none keeps)
-
-pub keeps_opened : (result : Result ℕ Full) (before after : LedgerView) (units : ℕ) (kept : ℕ → Bool) → KeepsItems before units kept → IfOk result (λ conn. Appends before (entry conn Rattle.unit_registry.specs.declared.act.Act.TheVariants.Open) after) → IfErr result (λ full. after ≡ before) → KeepsItems after units kept
-keeps_opened (Ok conn) before after units kept keeps appends same = keeps_appended before after (entry conn Rattle.unit_registry.specs.declared.act.Act.TheVariants.Open) units kept refl keeps appends
-keeps_opened (Err full) before after units kept keeps appends same = subst (λ (ledger : LedgerView). KeepsItems ledger units kept) (sym same) keeps
+-- what was copied fits, where each item that is kept does
+pub copied_fits : {Item E : Type 0} (result : Result (Option Item) E) (kept : Option Item) (Fits : Item → Type 0) → IfOk result (λ item. item ≡ kept) → ((item : Item) → kept ≡ Some item → Fits item) → IfOk result (λ item. IfSome item Fits)
+copied_fits (Ok None) kept Fits same fits = tt
+copied_fits (Ok (Some item)) kept Fits same fits = fits item (sym same)
+copied_fits (Err error) kept Fits same fits = tt

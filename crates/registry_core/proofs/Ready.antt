@@ -1,5 +1,6 @@
 -- What an entry that passes the checks is, and when the entry of a call passes them.
-use Rattle.std.proofs.Common.{◌≡◌, ℕ, ◌+◌, ◌<◌, ◌≤◌, Bool, true, false, cond, ◌||◌, ◌&&◌, List, [], ◌∷◌, length, fold, Option, Some, None, is_none, IfSome, IsTrue, refl, sym, ap, subst, ◌∙◌, arith, nat_le}
+use Rattle.std.proofs.Common.{◌≡◌, ℕ, ◌+◌, ◌<◌, ◌≤◌, ◌^◌, Bool, true, false, cond, ◌||◌, ◌&&◌, ◌==◌, List, [], ◌∷◌, length, fold, Option, Some, None, is_none, IfSome, IsTrue, refl, sym, ap, ap₂, subst, ◌∙◌, arith, nat_le, nat_lt, true≢false}
+use Rattle.std.specs.Prelude.{if◌then◌else◌}
 use Rattle.std.proofs.lemmas.Bool.{and_parts, or_parts, or_from}
 use Rattle.std.specs.Option.{option_map_or}
 use Rattle.unit_registry.specs.declared.act.Act.{Act}
@@ -7,6 +8,7 @@ use Rattle.unit_registry.specs.declared.act.Act.TheVariants.{Open, Left, Lost, D
 use Rattle.unit_registry.specs.Acts.{is_open_act, is_done, unit_of, hello_of}
 use Rattle.unit_registry.specs.Projects.{ProjectView, unit_count, is_plain}
 use Rattle.histories.specs.declared.entry.Entry.{Entry}
+use Rattle.histories.specs.Entries.{no_connection, has_its_unit, HasNumbers, IsTraceEntry}
 use Rattle.histories.specs.Answered.{has_gone, opened_count, open_count, reserved}
 use Rattle.histories.specs.Noted.{Noted, answered_of}
 use Rattle.histories.specs.Histories.{and_then, noted_of, fault, is_legal_after, is_out_of_range, IsLegal}
@@ -142,6 +144,35 @@ leave_passes ledger conn AsLost l there = (may_come ledger.project ledger.worker
 
 pub done_passes : (ledger : LedgerView) (conn : ℕ) → IsLedger ledger → open_in ledger + done_in ledger < ledger.workers → Passes ledger (entry conn Done)
 done_passes ledger conn l free = (may_come ledger.project ledger.workers ledger.limit ledger.entries (entry conn Done) l.few l.legal).1 free
+
+-- an entry that passes is one that a trace can hold, where its numbers are those of one
+is_no_connection : (conn : ℕ) → conn ≡ no_connection → (conn == no_connection) ≡ true
+is_no_connection conn e = grind arith
+
+is_connection : (conn limit : ℕ) → conn + conn + 1 < limit → limit < 2 ^ 31 → nat_lt conn no_connection ≡ true
+is_connection conn limit below small = grind arith
+
+pub trace_entry : (ledger : LedgerView) (newest : Entry) → IsLedger ledger → Passes ledger newest → (is_done newest.act ≡ true → newest.conn ≡ no_connection) → has_its_unit newest.act ≡ true → HasNumbers newest.act → IsTraceEntry newest
+trace_entry ledger newest l passes none whole numbers = record { is_entry = ap₂ (λ a b. a && b) (by (is_done newest.act) refl) whole; numbers = numbers }
+  where
+    by : (b : Bool) → is_done newest.act ≡ b → (if b then newest.conn == no_connection else nat_lt newest.conn no_connection) ≡ true
+    by true e = is_no_connection newest.conn (none e)
+    by false e = is_connection newest.conn ledger.limit ((ready ledger.project ledger.workers ledger.limit ledger.entries newest l.legal passes).conn e) l.small
+
+pub asks_no_end : (act : Act) (conn : ℕ) → effect_of act ≡ Asks → is_done act ≡ true → conn ≡ no_connection
+asks_no_end Done conn asks e = absurd (ends_apart asks)
+  where
+    ends : Effect → Bool
+    ends Ends = true
+    ends effect = false
+
+    ends_apart : Ends ≡ Asks → ⊥
+    ends_apart e = true≢false (ap ends e)
+asks_no_end act conn asks e = absurd (true≢false (sym e))
+
+pub leaving_entry : (ledger : LedgerView) (conn : ℕ) (how : Leaving) → IsLedger ledger → Passes ledger (entry conn (leaving how)) → IsTraceEntry (entry conn (leaving how))
+leaving_entry ledger conn AsLeft l passes = trace_entry ledger (entry conn Left) l passes (λ e. absurd (true≢false (sym e))) refl tt
+leaving_entry ledger conn AsLost l passes = trace_entry ledger (entry conn Lost) l passes (λ e. absurd (true≢false (sym e))) refl tt
 
 -- a named unit of the project is in range
 pub in_range : (count unit : ℕ) (plain : Bool) → unit < count → plain ≡ false → (nat_le count unit || plain) ≡ false

@@ -1,6 +1,7 @@
 -- What a desk tells, and what its calls change of it.
 use Rattle.std.specs.Prelude.{◌≡◌, ℕ, ◌+◌, ◌-◌, ◌<◌, ◌≤◌, Bool, false, ◌||◌, List, [], ◌∷◌, ◌++◌, length, All, Contains, count_by, slice_get, Some, IsFalse}
 use Rattle.std.specs.Option.{option_map_or}
+use Rattle.unit_registry.specs.declared.act.Act.{Act}
 use Rattle.unit_registry.specs.Acts.{is_done}
 use Rattle.histories.specs.declared.entry.Entry.{Entry}
 use Rattle.histories.specs.Counts.{Effect, Opens, Asks, effect_of, ChangesOpen, ChangesDone}
@@ -100,4 +101,24 @@ pub record GoesOn {Held : Type 0} (before after : DeskState Held) : Type 0 where
   pub places : after.places ≡ before.places ++ more_places
   pub more_connections : List ℕ
   pub connections : after.connections ≡ before.connections ++ more_connections
+  pub stays : Stays before after
+
+-- a call that keeps no turn where none was kept
+abbrev pub TakesNoTurn : Bool → Bool → Type 0
+TakesNoTurn before after = IsFalse before → IsFalse after
+
+-- the entry at the place is of this connection
+pub record IsEntryOf (conn : ℕ) (entries : List Entry) (place : ℕ) : Type 0 where
+  pub act : Act
+  pub there : slice_get entries place ≡ Some (record { conn = conn; act = act })
+
+-- what any number of calls for one connection leave of what a desk tells: the history has grown, and the own places by
+-- those of entries of this connection
+pub record GoesOnFor {Held : Type 0} (conn : ℕ) (before after : DeskState Held) : Type 0 where
+  pub since : List Entry
+  pub history : after.seen.entries ≡ before.seen.entries ++ since
+  pub own : List ℕ
+  pub places : after.places ≡ before.places ++ own
+  pub of_conn : All (IsEntryOf conn after.seen.entries) own
+  pub connections : after.connections ≡ before.connections
   pub stays : Stays before after

@@ -1,5 +1,5 @@
 -- A history and what it is of, with the words that callers ask of it.
-use Rattle.std.specs.Prelude.{◌≡◌, ℕ, ◌+◌, ◌<◌, ◌≤◌, ◌^◌, List, [], ◌∷◌, ◌++◌, length, Bool, Option, None}
+use Rattle.std.specs.Prelude.{◌≡◌, ℕ, ◌+◌, ◌<◌, ◌≤◌, ◌^◌, List, [], ◌∷◌, ◌++◌, length, map, filter, reverse, All, Bool, Option, None, is_some}
 use Rattle.unit_registry.specs.declared.act.Act.{Act}
 use Rattle.unit_registry.specs.declared.act.Act.TheVariants.{Left, Lost}
 use Rattle.unit_registry.specs.Projects.{ProjectView}
@@ -7,13 +7,22 @@ use Rattle.histories.specs.declared.entry.Entry.{Entry}
 use Rattle.histories.specs.declared.answer.Answer.{Answer}
 use Rattle.histories.specs.declared.answer.Said.{Said}
 use Rattle.histories.specs.declared.answered.Answered.{Answered}
+use Rattle.histories.specs.Entries.{IsTraceEntry}
 use Rattle.histories.specs.Answered.{is_open, opened_count, open_count, done_count, reserved}
-use Rattle.histories.specs.Noted.{Noted, answered_of}
+use Rattle.histories.specs.Noted.{Noted, answered_of, pending, reply_in}
 use Rattle.histories.specs.Answers.{at_once}
 use Rattle.histories.specs.Histories.{noted_of, reply, fault, IsLegal}
 use Rattle.registry_core.specs.declared.full.Full.{Full}
 use Rattle.registry_core.specs.declared.leaving.Leaving.{Leaving}
 use Rattle.registry_core.specs.declared.leaving.Leaving.TheVariants.{Left as AsLeft, Lost as AsLost}
+
+-- the most workers of a book
+abbrev pub most_workers : ℕ
+most_workers = 16384
+
+-- the most entries of a book, its ends counted
+abbrev pub most_entries : ℕ
+most_entries = 67108864
 
 -- a history and what it is of: the project, the number of workers, the limit, and the entries
 pub record LedgerView : Type 0 where
@@ -54,6 +63,20 @@ reserved_in ledger = reserved ledger.workers (said_in ledger)
 abbrev pub reply_at : LedgerView → ℕ → Option Answer
 reply_at ledger place = reply ledger.project ledger.workers ledger.entries place
 
+-- the places of the imports that waited before the newest entry and have their replies with it, the oldest first
+abbrev pub answered_with : ProjectView → List Noted → List ℕ
+answered_with project [] = []
+answered_with project (newest ∷ before) =
+    reverse (map (λ wait. wait.place) (filter (λ wait. is_some (reply_in project (newest ∷ before) wait.place)) (pending project before)))
+
+-- the same, of the last entry of the history
+abbrev pub answered_last : LedgerView → List ℕ
+answered_last ledger = answered_with ledger.project (noted_in ledger)
+
+-- how many imports wait
+abbrev pub waiting_in : LedgerView → ℕ
+waiting_in ledger = length (pending ledger.project (noted_in ledger))
+
 -- what is said at once to an act of the connection that is entered next
 abbrev pub said_to : LedgerView → ℕ → Act → Said
 said_to ledger conn act = at_once ledger.project (noted_in ledger) conn act
@@ -71,9 +94,11 @@ leaving AsLost = Lost
 abbrev pub with_entry : LedgerView → Entry → LedgerView
 with_entry ledger newest = record ledger { entries = ledger.entries ++ newest ∷ [] }
 
--- the history is legal, there is a worker, and the limit has room for the ends of all
+-- the history is legal, each of its entries is one that a trace can hold, there is a worker, and the limit has room for
+-- the ends of all
 pub record IsLedger (ledger : LedgerView) : Type 0 where
   pub legal : IsLegal ledger.project ledger.workers ledger.limit ledger.entries
+  pub each : All IsTraceEntry ledger.entries
   pub some : 1 ≤ ledger.workers
   pub few : ledger.workers ≤ ledger.limit
   pub small : ledger.limit < 2 ^ 31
@@ -82,11 +107,12 @@ pub record IsLedger (ledger : LedgerView) : Type 0 where
 abbrev pub Passes : LedgerView → Entry → Type 0
 Passes ledger newest = fault ledger.project ledger.workers ledger.limit (noted_in ledger) newest ≡ None
 
--- the entry passes the checks after a legal history, and was appended to it
+-- the entry is one that a trace can hold, passes the checks after a legal history, and was appended to it
 pub record Appends (before : LedgerView) (newest : Entry) (after : LedgerView) : Type 0 where
   pub appended : after ≡ with_entry before newest
   pub legal : IsLedger before
   pub passes : Passes before newest
+  pub is_entry : IsTraceEntry newest
 
 -- The numbers of a refusal are the length and the ends that are still to come. With so many more entries besides they
 -- left no room for a further one.

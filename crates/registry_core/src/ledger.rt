@@ -4,12 +4,12 @@ ghost use Rattle.std.specs.Prelude.{◌≡◌, ◌<◌, ◌≤◌, ◌+◌, ◌^
 ghost use Rattle.unit_registry.specs.declared.act.Act.TheVariants.{Open, Done};
 ghost use Rattle.unit_registry.specs.Acts.{unit_of, is_done};
 ghost use Rattle.unit_registry.specs.Projects.{unit_count};
-ghost use Rattle.histories.specs.Entries.{no_connection};
+ghost use Rattle.histories.specs.Entries.{has_its_unit, no_connection, IsTraceEntry, HasNumbers};
 ghost use Rattle.histories.specs.Noted.{fate};
 ghost use Rattle.histories.specs.Histories.{is_out_of_range};
 ghost use Rattle.histories.specs.Counts.{Asks, effect_of};
 ghost use Rattle.histories.specs.Answers.{at_once, closes_cycle, is_connected, is_taken, refused, refusal_of, to_hello, to_export, to_compiled, to_import};
-ghost use Rattle.registry_core.specs.Ledgers.{LedgerView, IsLedger, Passes, Appends, IsFull, HasRoom, entry, leaving, noted_in, said_in, said_to, is_open_in, opened_in, open_in, done_in, reserved_in, reply_at};
+ghost use Rattle.registry_core.specs.Ledgers.{LedgerView, IsLedger, Passes, Appends, IsFull, HasRoom, entry, leaving, noted_in, said_in, said_to, is_open_in, opened_in, open_in, done_in, reserved_in, reply_at, answered_last, waiting_in};
 ghost use Rattle.registry_core.specs.Standing.{asks_connected};
 
 use crate::{Full, Leaving};
@@ -25,7 +25,7 @@ use unit_registry::{Act, Project};
 /// A history, with what is kept beside it to answer from: tables by unit and by connection, the imports that wait, and
 /// the replies. No entry is read again. All its memory is taken when it is made.
 #[derive(Drop)]
-pub struct Ledger {
+pub(crate) struct Ledger {
     tables: Tables,
     imports: Imports,
     entries: Vec<Entry>,
@@ -47,14 +47,19 @@ impl Model for Ledger {
 
 impl Ledger {
     /// The ledger of an empty history. All memory is taken here.
-    pub fn new(alloc: Global, project: &Project, workers: u32, limit: u32) -> Result<Ledger, Memory>
+    pub(crate) fn new(
+        alloc: Global,
+        project: &Project,
+        workers: u32,
+        limit: u32,
+    ) -> Result<Ledger, Memory>
         requires some { 1 ≤ workers }
         requires few { workers ≤ limit }
         requires small { limit < 2 ^ 31 }
         ensures { IfOk result (λ ledger. ledger ≡ record { project = project.now; workers = workers; limit = limit; entries = [] }) }
     {
         let tables = Tables::new(alloc, project, limit / 2, workers, limit)?;
-        let imports = Imports::new(alloc, project.unit_count(), limit)?;
+        let imports = Imports::new(alloc, project.unit_count(), limit / 2, limit)?;
         let entries = Vec::with_capacity(alloc, limit as usize)?;
         Ok(Ledger {
             tables,
@@ -66,14 +71,14 @@ impl Ledger {
     }
 
     /// The history is legal, for its project, its workers and its limit.
-    pub fn is_legal(&self)
+    pub(crate) fn is_legal(&self)
         ensures { IsLedger self.now }
     {
         let _ = &self.limit;
     }
 
     /// The reply to the request at the place, if it has come.
-    pub fn look(&self, place: u32) -> Option<Answer>
+    pub(crate) fn look(&self, place: u32) -> Option<Answer>
         ensures { result ≡ reply_at self.now place }
     {
         if place as usize >= self.entries.len() {
@@ -82,93 +87,50 @@ impl Ledger {
         self.imports.reply(place)
     }
 
+    /// The places of the imports that got their replies with the last entry, the oldest first.
+    pub(crate) fn answered(&self) -> &[u32]
+        ensures { result.now ≡ answered_last self.now }
+    {
+        self.imports.answered()
+    }
+
+    /// How many imports wait.
+    pub(crate) fn waiting_count(&self) -> u32
+        ensures { result ≡ waiting_in self.now }
+    {
+        self.imports.waiting_count()
+    }
+
     /// The entries.
-    pub fn entries(&self) -> &[Entry]
+    pub(crate) fn entries(&self) -> &[Entry]
         ensures { result.now ≡ self.now.entries }
     {
         self.entries.as_slice()
     }
 
     /// Whether the connection is open.
-    pub fn is_open(&self, conn: u32) -> bool
+    pub(crate) fn is_open(&self, conn: u32) -> bool
         ensures { result ≡ is_open_in self.now conn }
     {
         self.tables.is_open(conn)
     }
 
     /// How many connections are open.
-    pub fn open_count(&self) -> u32
+    pub(crate) fn open_count(&self) -> u32
         ensures { result ≡ open_in self.now }
     {
         self.tables.open_count()
     }
 
     /// How many workers are done.
-    pub fn done_count(&self) -> u32
+    pub(crate) fn done_count(&self) -> u32
         ensures { result ≡ done_in self.now }
     {
         self.tables.done_count()
     }
 
-    /// Opens the next connection.
-    pub fn open(&mut self) -> Result<u32, Full>
-        requires { open_in self.old + done_in self.old < self.old.workers }
-        ensures opened { IfOk result (λ conn. conn ≡ opened_in self.old) }
-        ensures entered { IfOk result (λ conn. Appends self.old (entry conn Open) self.new) }
-        ensures roomy { IfOk result (λ conn. HasRoom self.old 1) }
-        ensures same { IfErr result (λ full. self.new ≡ self.old) }
-        ensures full { IfErr result (λ full. IsFull self.old 1 full) }
-    {
-        let taken = self.room_taken();
-        if taken.entries + taken.reserved + 1 >= self.limit() {
-            return Err(taken);
-        }
-        let conn = self.next_conn();
-        self.is_legal();
-        self.enter(conn, Act::Open);
-        Ok(conn)
-    }
-
-    /// Enters a request or a pause of an open connection, and answers its place.
-    pub fn ask(&mut self, conn: u32, act: Act) -> Result<u32, Full>
-        requires there { IsTrue (is_open_in self.old conn) }
-        requires act { effect_of act ≡ Asks }
-        requires unit { IsFalse (is_out_of_range self.old.project act) }
-        ensures place { IfOk result (λ place. place ≡ length self.old.entries) }
-        ensures entered { IfOk result (λ place. Appends self.old (entry conn act) self.new) }
-        ensures roomy { IfOk result (λ place. HasRoom self.old 0) }
-        ensures same { IfErr result (λ full. self.new ≡ self.old) }
-        ensures full { IfErr result (λ full. IsFull self.old 0 full) }
-    {
-        let taken = self.room_taken();
-        if taken.entries + taken.reserved >= self.limit() {
-            return Err(taken);
-        }
-        self.is_legal();
-        self.enter(conn, act);
-        Ok(taken.entries)
-    }
-
-    /// The connection goes.
-    pub fn leave(&mut self, conn: u32, how: Leaving)
-        requires { IsTrue (is_open_in self.old conn) }
-        ensures { Appends self.old (entry conn (leaving how)) self.new }
-    {
-        self.is_legal();
-        self.enter(conn, going_act(how));
-    }
-
-    /// A worker is done.
-    pub fn done(&mut self)
-        requires { open_in self.old + done_in self.old < self.old.workers }
-        ensures { Appends self.old (entry no_connection Done) self.new }
-    {
-        self.is_legal();
-        self.enter(u32::MAX, Act::Done);
-    }
-
     /// The length of the history, and the ends that are still to come.
-    fn room_taken(&self) -> Full
+    pub(crate) fn room_taken(&self) -> Full
         ensures entries { result.entries ≡ length self.now.entries }
         ensures reserved { result.reserved ≡ reserved_in self.now }
         ensures fits { result.entries + result.reserved ≤ self.now.limit }
@@ -180,14 +142,15 @@ impl Ledger {
         }
     }
 
-    fn limit(&self) -> u32
+    /// The most entries, the ends counted.
+    pub(crate) fn limit(&self) -> u32
         ensures { result ≡ self.now.limit }
     {
         self.limit
     }
 
     /// The number of the connection that opens next.
-    fn next_conn(&self) -> u32
+    pub(crate) fn next_conn(&self) -> u32
         ensures { result ≡ opened_in self.now }
     {
         self.tables.opened_count()
@@ -339,21 +302,25 @@ impl Ledger {
         }
     }
 
-    /// One more entry, which passes the checks.
-    fn enter(&mut self, conn: u32, act: Act)
+    /// One more entry, which passes the checks. Answers its place.
+    pub(crate) fn enter(&mut self, conn: u32, act: Act) -> u32
         requires legal { IsLedger self.old }
         requires passes { Passes self.old (entry conn act) }
-        ensures { Appends self.old (entry conn act) self.new }
+        requires whole { IsTraceEntry (entry conn act) }
+        ensures place { result ≡ length self.old.entries }
+        ensures entered { Appends self.old (entry conn act) self.new }
     {
         let said = self.at_once(conn, act);
         let newest = Answered { conn, act, said };
         let place = self.entries.len() as u32;
         self.tables.push(newest);
         self.imports.note(&self.tables, place, newest);
-        let stalled = settle_stall(self.imports.waiting(), &mut self.tables, self.workers);
+        let ends = may_end(newest, false);
+        let stalled = settle_stall(&self.imports, &mut self.tables, self.workers, ends);
         self.imports.settle(&self.tables, may_end(newest, stalled));
         self.imports.leave(&self.tables, newest);
         self.entries.push_reserved(Entry { conn, act });
+        place
     }
 }
 

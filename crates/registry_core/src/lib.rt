@@ -11,12 +11,12 @@ mod no_shelf;
 mod shelf;
 mod solo;
 
-pub use book::{Book, MOST_ENTRIES, MOST_WORKERS};
+pub use book::{Book, Entered, MOST_ENTRIES, MOST_WORKERS};
 pub use desk::Desk;
 pub use full::Full;
 pub use histories::{Answer, Entry};
 pub use leaving::Leaving;
-pub use ledger::{Ledger, going_act};
+pub use ledger::going_act;
 pub use no_shelf::NoShelf;
 pub use shelf::Shelf;
 pub use solo::SoloDesk;

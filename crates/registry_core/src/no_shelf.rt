@@ -49,4 +49,6 @@ impl Shelf for NoShelf {
         }
         Ok(None)
     }
+
+    ghost kept_fits = { λ shelf unit item kept. tt };
 }

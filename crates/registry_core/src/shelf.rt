@@ -1,6 +1,6 @@
 //! Where items are kept beside a history.
 
-ghost use Rattle.std.specs.Prelude.{◌≡◌, ◌==◌, ◌<◌, ℕ, Option, Some, None, IfOk, IfSome, if◌then◌else◌};
+ghost use Rattle.std.specs.Prelude.{◌≡◌, ◌==◌, ◌<◌, ℕ, Option, Some, None, IfOk, if◌then◌else◌};
 
 use mm_outside::Memory;
 use std::alloc::Global;
@@ -37,6 +37,8 @@ pub trait Shelf {
     /// A copy of the item that is kept for the unit, if one is. `Memory` may come for any unit.
     fn copy(&self, alloc: Global, unit: u32) -> Result<Option<Self::Item>, Memory>
         requires { unit < units self.now }
-        ensures kept { IfOk result (λ item. item ≡ kept self.now unit) }
-        ensures fits { IfOk result (λ kept. IfSome kept (λ item. fits (held self.now) unit item)) };
+        ensures { IfOk result (λ item. item ≡ kept self.now unit) };
+
+    /// Each item that it keeps fits its unit.
+    ghost kept_fits: { (shelf : Self) (unit : ℕ) (item : Self.Item) → kept shelf unit ≡ Some item → fits (held shelf) unit item };
 }

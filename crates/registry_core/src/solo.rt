@@ -1,12 +1,13 @@
 //! A desk that has a whole book.
 
-ghost use Rattle.std.specs.Prelude.{◌≡◌, ◌≤◌, true, Option, IfOk, IfErr, IsOk, IsTrue, IsFalse, Contains};
+ghost use Rattle.std.specs.Prelude.{◌≡◌, ◌≤◌, true, false, Option, IfOk, IfErr, IsOk, IsTrue, IsFalse, Contains};
+ghost use Rattle.histories.specs.Entries.{has_its_unit};
 ghost use Rattle.histories.specs.Answered.{stored_unit};
 ghost use Rattle.histories.specs.Histories.{is_out_of_range};
 ghost use Rattle.histories.specs.Counts.{Asks, effect_of};
 ghost use Rattle.registry_core.specs.Ledgers.{IsFull, entry, is_open_in};
 ghost use Rattle.registry_core.specs.Shelves.{ComesWith};
-ghost use Rattle.registry_core.specs.Desks.{Adds, Looks, IsSound};
+ghost use Rattle.registry_core.specs.Desks.{Adds, Looks, IsSound, TakesNoTurn};
 ghost use Rattle.registry_core.specs.Alone.{told_alone};
 
 use crate::book::Book;
@@ -14,7 +15,6 @@ use crate::desk::Desk;
 use crate::shelf::Shelf;
 use crate::{Answer, Full, Leaving};
 use mm_outside::Memory;
-use std::alloc::Global;
 use std::marker::Model;
 use std::snapshot::Snapshot;
 use unit_registry::Act;
@@ -73,6 +73,12 @@ where
 
     ghost tells = { told_alone S.kept S.held };
 
+    ghost holds = { λ desk. false };
+
+    fn hold(&mut self) {}
+
+    fn release(&mut self) {}
+
     fn open(&mut self) -> Result<u32, Full> {
         let opened = self.book.open();
         self.book.is_legal();
@@ -84,6 +90,7 @@ where
         requires there { IsTrue (is_open_in self.old.book.ledger conn) }
         requires act { effect_of act ≡ Asks }
         requires unit { IsFalse (is_out_of_range self.old.book.ledger.project act) }
+        requires whole { IsTrue (has_its_unit act) }
         requires item { ComesWith (S.fits (S.held self.old.book.shelf)) (stored_unit act) item }
         requires room { IsTrue (told_alone S.kept S.held self.old).metered → 1 ≤ (told_alone S.kept S.held self.old).room }
         ensures asked { IfOk result (λ place. Adds (told_alone S.kept S.held self.old) (entry conn act) place (told_alone S.kept S.held self.new)) }
@@ -91,6 +98,7 @@ where
         ensures full { IfErr result (λ full. IsFull self.new.book.ledger 0 full) }
         ensures roomy { 1 ≤ (told_alone S.kept S.held self.old).room → IsOk result }
         ensures sound { IsSound (told_alone S.kept S.held self.new) }
+        ensures turn { TakesNoTurn false false }
     {
         let asked = self.book.ask(conn, act, item);
         self.book.is_legal();
@@ -112,8 +120,8 @@ where
         self.book.is_legal();
     }
 
-    fn fetch(&mut self, alloc: Global, unit: u32) -> Result<Option<S::Item>, Memory> {
+    fn fetch(&mut self, unit: u32) -> Result<Option<S::Item>, Memory> {
         self.book.is_legal();
-        self.book.fetch(alloc, unit)
+        self.book.fetch(self.book.alloc(), unit)
     }
 }

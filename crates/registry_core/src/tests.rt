@@ -4,6 +4,7 @@ ghost use Rattle.std.specs.Prelude.{◌≡◌, ◌+◌, ◌<◌, ◌≤◌, leng
 ghost use Rattle.std.specs.List.{range_with_len};
 ghost use Rattle.unit_registry.specs.Projects.{unit_count, is_plain};
 ghost use Rattle.histories.specs.Answered.{stored_unit};
+ghost use Rattle.histories.specs.Entries.{has_its_unit};
 ghost use Rattle.histories.specs.Counts.{Asks, effect_of};
 ghost use Rattle.histories.specs.Histories.{is_out_of_range};
 ghost use Rattle.registry_core.specs.Ledgers.{is_open_in, opened_in, open_in, done_in};
@@ -106,11 +107,22 @@ fn has_unit(project: &Project, act: Act) -> bool
     }
 }
 
-/// Whether it is a request or a pause.
+/// Whether it is a request or a pause, and an item is of a declared unit.
 fn is_asked(act: Act) -> bool
-    ensures { IsTrue result → effect_of act ≡ Asks }
+    ensures kind { IsTrue result → effect_of act ≡ Asks }
+    ensures whole { IsTrue result → IsTrue (has_its_unit act) }
 {
-    !matches!(act, Act::Open | Act::Left | Act::Lost | Act::Done)
+    !matches!(
+        act,
+        Act::Open
+            | Act::Left
+            | Act::Lost
+            | Act::Done
+            | Act::Compiled {
+                unit: None,
+                stored: true
+            }
+    )
 }
 
 /// The item that comes with the act.
@@ -216,6 +228,21 @@ fn has_replies(book: &Book<NoShelf>, last: u32, replies: &[(u32, u32, Answer)]) 
     right
 }
 
+/// Whether exactly those imports are told of that get their replies with the entry at this place.
+fn has_answered(book: &Book<NoShelf>, last: u32, replies: &[(u32, u32, Answer)]) -> bool {
+    let answered = book.answered();
+    let mut found = 0;
+    for (with, place, _) in replies {
+        if *with == last && *place < last {
+            if found >= answered.len() || answered[found] != *place {
+                return false;
+            }
+            found += 1;
+        }
+    }
+    found == answered.len()
+}
+
 /// Whether the entries are made, each followed by exactly the replies that come with it or before.
 fn replays(
     book: &mut Book<NoShelf>,
@@ -232,6 +259,7 @@ fn replays(
     for place in 0..entries.len() {
         if !enters(book, project, workers, entries[place])
             || !has_replies(book, place as u32, replies)
+            || !has_answered(book, place as u32, replies)
         {
             return false;
         }
@@ -491,8 +519,8 @@ fn compiled_alone(alloc: Global) -> bool {
     };
     desk_replays(&mut desk, &project, conn, &acts)
         && project.unit_count() == 4
-        && desk.fetch(alloc, 0) == Ok(Some(()))
-        && desk.fetch(alloc, 1) == Ok(None)
+        && desk.fetch(0) == Ok(Some(()))
+        && desk.fetch(1) == Ok(None)
 }
 
 #[test]

@@ -1,16 +1,16 @@
 -- The loops over the imports that wait.
-use Rattle.std.proofs.Common.{◌≡◌, ◌⊎◌, ℕ, ◌+◌, ◌<◌, Bool, true, false, not, ◌||◌, ◌&&◌, ◌==◌, inl, inr, List, [], ◌∷◌, length, filter, reverse, take, drop, get_or, set, Option, None, is_none, refl, sym, ap, subst, ◌∙◌, arith, get_or-set_same, get_or-set_other, add-one, length-set}
+use Rattle.std.proofs.Common.{◌≡◌, ◌⊎◌, ℕ, ◌+◌, ◌<◌, Bool, true, false, not, ◌||◌, ◌&&◌, ◌==◌, inl, inr, List, [], ◌∷◌, ◌++◌, length, map, filter, reverse, take, drop, get_or, set, Option, None, is_none, refl, sym, ap, subst, ◌∙◌, arith, get_or-set_same, get_or-set_other, add-one, length-set}
 use Rattle.std.proofs.Math.Seq.{drop-cons, take-suc}
-use Rattle.std.proofs.lemmas.Bool.{cases_eq, both_ways}
-use Rattle.std.proofs.lemmas.List.{get_or_default, reverse-append, reverse-reverse}
+use Rattle.std.proofs.lemmas.Bool.{cases_eq, both_ways, cond-false}
+use Rattle.std.proofs.lemmas.List.{map-append, get_or_default, reverse-append, reverse-reverse}
 use Rattle.histories.specs.declared.answer.Answer.{Answer}
 use Rattle.histories.proofs.Members.{In}
 use Rattle.histories.proofs.Members.{In-at, In-reverse}
 use Rattle.wait_graph.specs.Graph.{Graph}
 use Rattle.registry_tables.specs.declared.imports.Waiting.{Waiting}
-use Rattle.registry_tables.specs.Imported.{Settles, is_ended_in}
+use Rattle.registry_tables.specs.Imported.{Settles, is_ended_in, ended_places}
 use Rattle.registry_tables.specs.Tabled.{Tabled, fate_in}
-use Rattle.registry_tables.proofs.Openings.{filter_alike, filter_twice}
+use Rattle.registry_tables.proofs.Openings.{filter_alike, filter_twice, reverse_filter}
 
 -- the element at an index is one of the list
 pub in_at : {A : Type 0} (xs : List A) (i : ℕ) (d : A) → i < length xs → In (get_or xs i d) xs
@@ -82,6 +82,25 @@ settles_more t w before pairs ended =
 pub settles_none : (t : Tabled) (w : Waiting) (before : List Waiting) (pairs : List (ℕ × ℕ)) → not (is_none (fate_in t w.unit)) ≡ false → filter (λ p. not (is_ended_in t before p.1)) pairs ≡ filter (λ p. not (is_ended_in t (w ∷ before) p.1)) pairs
 settles_none t w before pairs stays =
     filter_alike (λ p. not (is_ended_in t before p.1)) (λ p. not (is_ended_in t (w ∷ before) p.1)) (λ p. ap (λ b. not ((b && w.unit == p.1) || is_ended_in t before p.1)) (sym stays)) pairs
+
+map_reversed : {A B : Type 0} (f : A → B) → (xs : List A) → map f (reverse xs) ≡ reverse (map f xs)
+map_reversed f [] = refl
+map_reversed f (x ∷ xs) =
+    ap (map f) (reverse-append (x ∷ []) xs)
+    ∙ map-append f (reverse xs) (x ∷ [])
+    ∙ ap (λ ys. ys ++ f x ∷ []) (map_reversed f xs)
+    ∙ sym (reverse-append (f x ∷ []) (map f xs))
+
+-- the places of those that have ended, of a list that starts with the oldest
+pub ended_turned : (t : Tabled) (items : List Waiting) → map (λ (w : Waiting). w.place) (filter (λ w. not (is_none (fate_in t w.unit))) items) ≡ ended_places t (reverse items)
+ended_turned t items =
+    sym (ap (λ (ws : List Waiting). reverse (map (λ (w : Waiting). w.place) ws)) (sym (reverse_filter (λ w. not (is_none (fate_in t w.unit))) items))
+    ∙ ap reverse (map_reversed (λ (w : Waiting). w.place) (filter (λ w. not (is_none (fate_in t w.unit))) items))
+    ∙ reverse-reverse (map (λ (w : Waiting). w.place) (filter (λ w. not (is_none (fate_in t w.unit))) items)))
+
+pub none_pass : {A : Type 0} (p : A → Bool) → (xs : List A) → ((x : A) → In x xs → p x ≡ false) → filter p xs ≡ []
+none_pass p [] none = refl
+none_pass p (x ∷ xs) none = cond-false _ _ _ (none x (inl refl)) ∙ none_pass p xs (λ y there. none y (inr there))
 
 pub pass_all : {A : Type 0} (xs : List A) → xs ≡ filter (λ x. true) xs
 pass_all [] = refl

@@ -1,5 +1,5 @@
 -- The imports that wait, the replies of all places, and the graph, as callers see them.
-use Rattle.std.specs.Prelude.{◌≡◌, ◌⊎◌, ℕ, ◌<◌, ◌≤◌, List, ◌∷◌, length, filter, filter_map, get_or, Bool, not, true, ◌&&◌, ◌||◌, ◌==◌, Option, Some, None, is_none, false, vec_capacity}
+use Rattle.std.specs.Prelude.{◌≡◌, ◌⊎◌, ℕ, ◌<◌, ◌≤◌, List, ◌∷◌, length, map, reverse, filter, filter_map, get_or, Bool, not, true, ◌&&◌, ◌||◌, ◌==◌, Option, Some, None, is_none, false, vec_capacity}
 use Rattle.std.specs.List.{list_any}
 use Rattle.std.specs.Global.{Vec}
 use Rattle.histories.specs.declared.answer.Answer.{Answer}
@@ -14,18 +14,21 @@ use Rattle.unit_registry.specs.declared.act.Act.TheVariants.{Compiled}
 use Rattle.histories.specs.declared.answered.Answered.{Answered}
 use Rattle.histories.specs.Answered.{is_accepted}
 use Rattle.wait_graph.specs.Walks.{Leads}
-use Rattle.histories.proofs.Members.{In}
+use Rattle.histories.specs.Members.{In}
 use Rattle.histories.specs.Noted.{answer_by}
 use Rattle.wait_graph.specs.Graph.{Graph}
 use Rattle.registry_tables.specs.declared.imports.Waiting.{Waiting}
 use Rattle.registry_tables.specs.Tabled.{Tabled, fate_in}
 
--- the number of units, the room for places, the imports that wait, the newest first, and the replies by place
+-- the number of units, for how many connections there is a number, the room for places, the imports that wait, the newest first, the replies by place, and the
+-- places of the imports that got theirs last
 pub record Imported : Type 0 where
   pub units : ℕ
+  pub conns : ℕ
   pub room : ℕ
   pub waiting : List Waiting
   pub replies : List (Option Answer)
+  pub answered : List ℕ
 
 -- the pair of the unit held and the one awaited, where one is held
 abbrev pub pair_by : Option ℕ → ℕ → Option (ℕ × ℕ)
@@ -41,11 +44,20 @@ abbrev pub without : Option ℕ → List (ℕ × ℕ) → List (ℕ × ℕ)
 without (Some unit) pairs = filter (λ pair. not (pair.0 == unit)) pairs
 without None pairs = pairs
 
--- what the imports keep: the graph's pairs are those of the waiting imports, and there is room for as many as promised
-pub record IsImported (waiting : Vec Waiting) (replies : Vec (Option Answer)) (graph : Graph) : Type 0 where
+-- how many of them are of the connection
+abbrev pub count_of : List Waiting → ℕ → ℕ
+count_of waiting conn = length (filter (λ waiter. waiter.conn == conn) waiting)
+
+-- what the imports keep: the graph's pairs are those of the waiting imports, the number of each connection is that of
+-- its imports that wait, no more wait than there is room for, and there is room for as many as promised
+pub record IsImported (waiting : Vec Waiting) (replies : Vec (Option Answer)) (answered counts : Vec ℕ) (conns : ℕ) (graph : Graph) : Type 0 where
   pub pairs : graph.pairs ≡ pairs_in waiting.items
   pub has_room : graph.edges ≤ vec_capacity waiting
   pub has_reply_room : graph.edges ≤ vec_capacity replies
+  pub has_answered_room : graph.edges ≤ vec_capacity answered
+  pub has_count_room : conns ≤ vec_capacity counts
+  pub counted : (conn : ℕ) → get_or counts.items conn 0 ≡ count_of waiting.items conn
+  pub few : length waiting.items ≤ graph.edges
 
 -- The replies of those whose unit has ended are these, and what no such import waits for is right already.
 pub record Settles (tables : Tabled) (waiting : List Waiting) (old : List (Option Answer)) (reply : ℕ → Option Answer) : Type 0 where
@@ -65,6 +77,10 @@ pub record IsTied (conn : ℕ) (holder : Option ℕ) (waiter : Waiting) : Type 0
 -- whether one of them waits for this unit, and it has ended
 abbrev pub is_ended_in : Tabled → List Waiting → ℕ → Bool
 is_ended_in tables waiting unit = list_any (λ waiter. not (is_none (fate_in tables waiter.unit)) && waiter.unit == unit) waiting
+
+-- the places of those whose unit has ended, the oldest first
+abbrev pub ended_places : Tabled → List Waiting → List ℕ
+ended_places tables waiting = reverse (map (λ waiter. waiter.place) (filter (λ waiter. not (is_none (fate_in tables waiter.unit))) waiting))
 
 -- the unit that a connection holds
 abbrev pub held : Who → Option ℕ

@@ -2,7 +2,7 @@
 use Rattle.unit_registry.specs.Projects.{unit_count}
 use Rattle.std.specs.Prelude.{ℕ, ◌<◌, ◌+◌, Bool, not, ◌&&◌, ◌==◌, is_none, List, length}
 use Rattle.std.specs.List.{list_any, list_all}
-use Rattle.histories.proofs.Members.{In}
+use Rattle.histories.specs.Members.{In}
 use Rattle.histories.specs.Answered.{has_gone, is_paused, open_connections, done_count}
 use Rattle.registry_tables.specs.declared.imports.Waiting.{Waiting}
 use Rattle.registry_tables.specs.Tabled.{Tabled, fate_in, is_free_in}

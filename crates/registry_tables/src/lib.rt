@@ -9,6 +9,7 @@ mod conn_rows;
 mod imports;
 mod stalls;
 mod tables;
+mod wait_counts;
 
 pub use acts::may_end;
 pub use imports::{Imports, Waiting};

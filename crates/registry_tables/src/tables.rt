@@ -124,7 +124,7 @@ impl Tables {
     }
 
     /// Whether the connection's last act is a Pause.
-    pub fn is_paused(&self, conn: u32) -> bool
+    pub(crate) fn is_paused(&self, conn: u32) -> bool
         requires { conn < self.now.room }
         ensures { result ≡ is_paused self.now.answered conn }
     {
@@ -132,7 +132,7 @@ impl Tables {
     }
 
     /// Whether the connection has left or was lost.
-    pub fn has_gone(&self, conn: u32) -> bool
+    pub(crate) fn has_gone(&self, conn: u32) -> bool
         requires { conn < self.now.room }
         ensures { result ≡ has_gone self.now.answered conn }
     {
@@ -140,7 +140,7 @@ impl Tables {
     }
 
     /// The connections that are open.
-    pub fn open(&self) -> &[u32]
+    pub(crate) fn open(&self) -> &[u32]
         ensures open { reverse result.now ≡ open_connections self.now.answered }
         ensures within { All (λ conn. conn < self.now.room) result.now }
     {
@@ -209,7 +209,7 @@ impl Tables {
     }
 
     /// Whether it is one of the project's units, and has ended.
-    pub fn has_ended(&self, unit: u32) -> bool
+    pub(crate) fn has_ended(&self, unit: u32) -> bool
         ensures { result ≡ (nat_lt unit (unit_count self.now.project) && not (is_none (fate_in self.now unit))) }
     {
         (unit as usize) < self.built.len() && self.fate(unit).is_some()
@@ -226,7 +226,7 @@ impl Tables {
     }
 
     /// Whether the unit has not ended and no connection holds it, but for one that was given up.
-    pub fn is_free(&self, unit: u32) -> bool
+    pub(crate) fn is_free(&self, unit: u32) -> bool
         requires { unit < unit_count self.now.project }
         ensures { result ≡ is_free_in self.now unit }
     {
@@ -234,7 +234,7 @@ impl Tables {
     }
 
     /// The unit is given up.
-    pub fn give_up(&mut self, unit: u32)
+    pub(crate) fn give_up(&mut self, unit: u32)
         requires { unit < unit_count self.old.project }
         ensures same { self.new ≡ record self.old { given = self.new.given } }
         ensures given { (other : ℕ) → get_or self.new.given other false ≡ (get_or self.old.given other false || unit == other) }

@@ -1,6 +1,12 @@
-use Rattle.registry_core.specs.Ledgers.{entry, leaving}
-use Rattle.registry_core.proofs.Keeping.{keeps_appended, leaving_stores}
+use Rattle.std.proofs.Common.{sym, subst}
+use Rattle.unit_registry.specs.declared.act.Act.{Act}
+use Rattle.histories.specs.Entries.{IsTraceEntry}
+use Rattle.registry_core.specs.Ledgers.{Passes, entry}
+use Rattle.registry_core.proofs.Ready.{leave_passes, leaving_entry}
 use Rattle.registry_core.proofs.book.Book.leave.Goals as goal
 
-pub invariant_of-self : goal.invariant_of-self
-invariant_of-self g c = keeps_appended c.self.inside.ledger c.leave.new.self (entry c.args.conn (leaving c.args.how)) _ _ (leaving_stores c.args.how) c.self.invariant c.leave.ensures
+pub enter-requires-clause-passes : goal.enter-requires-clause-passes
+enter-requires-clause-passes g c = subst (λ (a : Act). Passes c.args.self.now.ledger (entry c.args.conn a)) (sym c.going_act-act.ensures) (leave_passes c.args.self.now.ledger c.args.conn c.args.how c.is_legal.ensures.legal c.requires)
+
+pub enter-requires-clause-whole : goal.enter-requires-clause-whole
+enter-requires-clause-whole g c = subst (λ (a : Act). IsTraceEntry (entry c.args.conn a)) (sym c.going_act-act.ensures) (leaving_entry c.args.self.now.ledger c.args.conn c.args.how c.is_legal.ensures.legal (leave_passes c.args.self.now.ledger c.args.conn c.args.how c.is_legal.ensures.legal c.requires))

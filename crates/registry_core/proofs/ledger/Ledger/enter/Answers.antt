@@ -12,14 +12,13 @@ use Rattle.histories.specs.Answered.{who, has_gone, open_count}
 use Rattle.histories.specs.Answers.{at_once}
 use Rattle.histories.specs.Noted.{Noted, answer_in}
 use Rattle.histories.specs.Histories.{noted_of, with_said}
-use Rattle.registry_tables.specs.declared.imports.Waiting.{Waiting}
 use Rattle.registry_tables.specs.Tabled.{Tabled}
 use Rattle.registry_tables.specs.Stalled.{is_stalled_in, gives_up}
 use Rattle.registry_tables.specs.Imported.{Imported, held, newest_waiting, WaitsWell, ClosesNone, may_end_unit}
 use Rattle.registry_core.specs.Ledgers.{LedgerView, Passes, said_to, entry}
 use Rattle.registry_core.specs.Standing.{Stands}
 use Rattle.registry_core.proofs.Ready.{IsReady, ready}
-use Rattle.registry_core.proofs.Entered.{tables1, imports1, stands_by, lengths, waiting_few, waits_well, are_within, all_within_by, tied_by, idle_by, no_circle}
+use Rattle.registry_core.proofs.OneMore.{tables1, imports1, stands_by, lengths, waiting_few, waits_well, are_within, all_within_by, tied_by, idle_by, idle_first, no_circle}
 use Rattle.registry_core.proofs.ledger.Ledger.enter.Goals as goal
 
 answered_few : (t : Tabled) (i : Imported) (entries : Vec Entry) (workers limit : ℕ) (noted : List Noted) → Stands t i entries workers limit noted → length t.answered ≡ length entries.items
@@ -186,8 +185,14 @@ note-requires-clause-no_circle c unit waits =
     let well : WaitsWell (at_once i.tables.project noted c.args.conn c.args.act) c.args.act (unit_count i.tables.project) = waits_well i.tables.project noted c.args.conn c.args.act (at_once i.tables.project noted c.args.conn c.args.act) (unit_count i.tables.project) refl r.unit in
     subst (λ (a : List Answered). ClosesNone (reverse i.imports.waiting) (held (who a c.args.conn)) unit) (sym (ap (λ (t : Tabled). t.answered) push_is)) (no_circle i.tables i.imports i.entries i.workers i.limit noted e c.self.invariant unit (sym said_is ∙ waits))
 
-pub settle_stall-stalled-requires : goal.settle_stall-stalled-requires
-settle_stall-stalled-requires c =
+pub note-requires-clause-small : goal.note-requires-clause-small
+note-requires-clause-small c = (let room = c.self.invariant.has_import_room in let small = c.self.invariant.small in search rules)
+
+pub note-requires-clause-conns : goal.note-requires-clause-conns
+note-requires-clause-conns c = c.self.invariant.has_conns ∙ sym (ap (λ (t : Tabled). t.room) c.push.ensures)
+
+pub settle_stall-stalled-requires-clause-within : goal.settle_stall-stalled-requires-clause-within
+settle_stall-stalled-requires-clause-within c =
     let i = c.self.inside in
     let base : made i.tables.project i.workers i.limit i.entries.items ≡ c.args.self.now = c.self.view_is ∙ c.at_once-said.ensures.same in
     let noted : List Noted = noted_of i.tables.project i.workers i.entries.items in
@@ -201,7 +206,24 @@ settle_stall-stalled-requires c =
     let push_is : c.push.new.self ≡ tables1 i.tables i.imports i.entries i.workers i.limit noted e = c.push.ensures ∙ ap (λ (s : Said). with_newest i.tables c.args.conn c.args.act s) said_is in
     let note_is : c.note.new.self ≡ imports1 i.tables i.imports i.entries i.workers i.limit noted e = c.note.ensures ∙ (λ j. with_note i.imports (said_is j) (place_is j) c.args.conn ((push_is j).answered)) in
     let well : WaitsWell (at_once i.tables.project noted c.args.conn c.args.act) c.args.act (unit_count i.tables.project) = waits_well i.tables.project noted c.args.conn c.args.act (at_once i.tables.project noted c.args.conn c.args.act) (unit_count i.tables.project) refl r.unit in
-    are_within i.tables i.imports i.entries i.workers i.limit noted e c.self.invariant well room c.push.new.self c.note.new.self c.waiting.result.now push_is note_is c.waiting.ensures
+    are_within i.tables i.imports i.entries i.workers i.limit noted e c.self.invariant well room c.push.new.self c.note.new.self push_is note_is
+
+pub settle_stall-stalled-requires-clause-idle : goal.settle_stall-stalled-requires-clause-idle
+settle_stall-stalled-requires-clause-idle c none =
+    let i = c.self.inside in
+    let base : made i.tables.project i.workers i.limit i.entries.items ≡ c.args.self.now = c.self.view_is ∙ c.at_once-said.ensures.same in
+    let noted : List Noted = noted_of i.tables.project i.workers i.entries.items in
+    let e : Entry = record { conn = c.args.conn; act = c.args.act } in
+    let r : IsReady i.tables.project i.workers i.limit noted e = ready i.tables.project i.workers i.limit i.entries.items e c.self.invariant.legal (subst (λ (b : LedgerView). Passes b e) (sym base) c.requires.passes) in
+    let size : length noted ≡ length i.entries.items = lengths i.tables.project i.workers i.entries.items noted c.self.invariant.is_noted in
+    let answered : length i.tables.answered ≡ length i.entries.items = answered_few i.tables i.imports i.entries i.workers i.limit noted c.self.invariant in
+    let room : is_done c.args.act ≡ false → c.args.conn < i.tables.room = λ no_end. (let l = r.conn no_end in let h = c.self.invariant.has_room in omega arith) in
+    let said_is : c.at_once-said.result ≡ at_once i.tables.project noted c.args.conn c.args.act = c.at_once-said.ensures.said ∙ ap (λ (b : LedgerView). said_to b c.args.conn c.args.act) (sym base) in
+    let place_is : c.len-place.result ≡ length i.entries.items = search rules in
+    let push_is : c.push.new.self ≡ tables1 i.tables i.imports i.entries i.workers i.limit noted e = c.push.ensures ∙ ap (λ (s : Said). with_newest i.tables c.args.conn c.args.act s) said_is in
+    let note_is : c.note.new.self ≡ imports1 i.tables i.imports i.entries i.workers i.limit noted e = c.note.ensures ∙ (λ j. with_note i.imports (said_is j) (place_is j) c.args.conn ((push_is j).answered)) in
+    let well : WaitsWell (at_once i.tables.project noted c.args.conn c.args.act) c.args.act (unit_count i.tables.project) = waits_well i.tables.project noted c.args.conn c.args.act (at_once i.tables.project noted c.args.conn c.args.act) (unit_count i.tables.project) refl r.unit in
+    idle_first i.tables i.imports i.entries i.workers i.limit noted e c.self.invariant r.passing c.push.new.self c.note.new.self push_is note_is (sym (c.may_end-ends.ensures ∙ ap (λ (x : Said). may_end_unit (with_said e x)) said_is) ∙ none)
 
 pub settle-requires-clause-within : goal.settle-requires-clause-within
 settle-requires-clause-within c =
@@ -234,8 +256,8 @@ settle-requires-clause-idle c stays =
     let push_is : c.push.new.self ≡ tables1 i.tables i.imports i.entries i.workers i.limit noted e = c.push.ensures ∙ ap (λ (s : Said). with_newest i.tables c.args.conn c.args.act s) said_is in
     let note_is : c.note.new.self ≡ imports1 i.tables i.imports i.entries i.workers i.limit noted e = c.note.ensures ∙ (λ j. with_note i.imports (said_is j) (place_is j) c.args.conn ((push_is j).answered)) in
     let well : WaitsWell (at_once i.tables.project noted c.args.conn c.args.act) c.args.act (unit_count i.tables.project) = waits_well i.tables.project noted c.args.conn c.args.act (at_once i.tables.project noted c.args.conn c.args.act) (unit_count i.tables.project) refl r.unit in
-    let gives : (unit : ℕ) → get_or c.settle_stall-stalled.new.tables.given unit false ≡ (get_or c.push.new.self.given unit false || (is_stalled_in c.push.new.self i.workers c.note.new.self.waiting && list_any (λ w. w.unit == unit && gives_up c.push.new.self w) c.note.new.self.waiting)) = subst (λ (ws : List Waiting). (unit : ℕ) → get_or c.settle_stall-stalled.new.tables.given unit false ≡ (get_or c.push.new.self.given unit false || (is_stalled_in c.push.new.self i.workers ws && list_any (λ w. w.unit == unit && gives_up c.push.new.self w) ws))) c.waiting.ensures c.settle_stall-stalled.ensures.given in
-    let stall_is : c.settle_stall-stalled.result ≡ is_stalled_in c.push.new.self i.workers c.note.new.self.waiting = subst (λ (ws : List Waiting). c.settle_stall-stalled.result ≡ is_stalled_in c.push.new.self i.workers ws) c.waiting.ensures c.settle_stall-stalled.ensures.stalled in
+    let gives : (unit : ℕ) → get_or c.settle_stall-stalled.new.tables.given unit false ≡ (get_or c.push.new.self.given unit false || (is_stalled_in c.push.new.self i.workers c.note.new.self.waiting && list_any (λ w. w.unit == unit && gives_up c.push.new.self w) c.note.new.self.waiting)) = c.settle_stall-stalled.ensures.given in
+    let stall_is : c.settle_stall-stalled.result ≡ is_stalled_in c.push.new.self i.workers c.note.new.self.waiting = c.settle_stall-stalled.ensures.stalled in
     idle_by i.tables i.imports i.entries i.workers i.limit noted e c.self.invariant r.passing c.push.new.self c.settle_stall-stalled.new.tables c.note.new.self c.settle_stall-stalled.result c.may_end.result push_is note_is c.settle_stall-stalled.ensures.same gives stall_is (c.may_end.ensures ∙ ap (λ (x : Said). c.settle_stall-stalled.result || may_end_unit (with_said e x)) said_is) stays
 
 pub leave-requires-clause-conn : goal.leave-requires-clause-conn
@@ -294,5 +316,5 @@ invariant_of-self c =
     let push_is : c.push.new.self ≡ tables1 i.tables i.imports i.entries i.workers i.limit noted e = c.push.ensures ∙ ap (λ (s : Said). with_newest i.tables c.args.conn c.args.act s) said_is in
     let note_is : c.note.new.self ≡ imports1 i.tables i.imports i.entries i.workers i.limit noted e = c.note.ensures ∙ (λ j. with_note i.imports (said_is j) (place_is j) c.args.conn ((push_is j).answered)) in
     let well : WaitsWell (at_once i.tables.project noted c.args.conn c.args.act) c.args.act (unit_count i.tables.project) = waits_well i.tables.project noted c.args.conn c.args.act (at_once i.tables.project noted c.args.conn c.args.act) (unit_count i.tables.project) refl r.unit in
-    let gives : (unit : ℕ) → get_or c.settle_stall-stalled.new.tables.given unit false ≡ (get_or c.push.new.self.given unit false || (is_stalled_in c.push.new.self i.workers c.note.new.self.waiting && list_any (λ w. w.unit == unit && gives_up c.push.new.self w) c.note.new.self.waiting)) = subst (λ (ws : List Waiting). (unit : ℕ) → get_or c.settle_stall-stalled.new.tables.given unit false ≡ (get_or c.push.new.self.given unit false || (is_stalled_in c.push.new.self i.workers ws && list_any (λ w. w.unit == unit && gives_up c.push.new.self w) ws))) c.waiting.ensures c.settle_stall-stalled.ensures.given in
-    stands_by i.tables i.imports i.entries i.workers i.limit noted e c.self.invariant r.passing c.push.new.self c.settle_stall-stalled.new.tables c.note.new.self c.settle.new.self c.leave.new.self c.push_reserved.new.self push_is note_is c.settle_stall-stalled.ensures.same gives c.settle.ensures.waiting c.settle.ensures.replies c.settle.ensures.kept c.leave.ensures c.push_reserved.ensures.items (search rules) well room
+    let gives : (unit : ℕ) → get_or c.settle_stall-stalled.new.tables.given unit false ≡ (get_or c.push.new.self.given unit false || (is_stalled_in c.push.new.self i.workers c.note.new.self.waiting && list_any (λ w. w.unit == unit && gives_up c.push.new.self w) c.note.new.self.waiting)) = c.settle_stall-stalled.ensures.given in
+    stands_by i.tables i.imports i.entries i.workers i.limit noted e c.self.invariant r.passing c.requires.whole c.push.new.self c.settle_stall-stalled.new.tables c.note.new.self c.settle.new.self c.leave.new.self c.push_reserved.new.self push_is note_is c.settle_stall-stalled.ensures.same gives c.settle.ensures.waiting c.settle.ensures.replies c.settle.ensures.answered c.settle.ensures.conns c.settle.ensures.kept c.leave.ensures c.push_reserved.ensures.items (search rules) well room

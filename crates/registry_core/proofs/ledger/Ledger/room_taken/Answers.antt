@@ -14,7 +14,7 @@ pub overflow_cast-result : goal.overflow_cast-result
 overflow_cast-result c =
     let i = c.self.inside in
     let b = made i.tables.project i.workers i.limit i.entries.items in
-    let l : IsLedger b = record { legal = c.self.invariant.legal; some = c.self.invariant.some; few = c.self.invariant.few; small = c.self.invariant.small } in
+    let l : IsLedger b = record { legal = c.self.invariant.legal; each = c.self.invariant.each; some = c.self.invariant.some; few = c.self.invariant.few; small = c.self.invariant.small } in
     let f = fits_in b l in
     let m = c.self.invariant.small in
     search rules
@@ -23,7 +23,7 @@ pub overflow_sub-result : goal.overflow_sub-result
 overflow_sub-result c =
     let i = c.self.inside in
     let b = made i.tables.project i.workers i.limit i.entries.items in
-    let l : IsLedger b = record { legal = c.self.invariant.legal; some = c.self.invariant.some; few = c.self.invariant.few; small = c.self.invariant.small } in
+    let l : IsLedger b = record { legal = c.self.invariant.legal; each = c.self.invariant.each; some = c.self.invariant.some; few = c.self.invariant.few; small = c.self.invariant.small } in
     let s = workers_in b l in
     let d : c.done_count.result ≡ done_in b = c.done_count.ensures.count ∙ ap (λ (a : List Answered). done_count a) c.self.invariant.is_answered in
     omega arith
@@ -32,7 +32,7 @@ pub returns-clause-reserved : goal.returns-clause-reserved
 returns-clause-reserved c =
     let i = c.self.inside in
     let b = made i.tables.project i.workers i.limit i.entries.items in
-    let l : IsLedger b = record { legal = c.self.invariant.legal; some = c.self.invariant.some; few = c.self.invariant.few; small = c.self.invariant.small } in
+    let l : IsLedger b = record { legal = c.self.invariant.legal; each = c.self.invariant.each; some = c.self.invariant.some; few = c.self.invariant.few; small = c.self.invariant.small } in
     let s = workers_in b l in
     let d : c.done_count.result ≡ done_in b = c.done_count.ensures.count ∙ ap (λ (a : List Answered). done_count a) c.self.invariant.is_answered in
     let o : c.open_count.result ≡ open_in b = c.open_count.ensures.count ∙ ap (λ (a : List Answered). open_count a) c.self.invariant.is_answered in
@@ -43,7 +43,7 @@ pub returns-clause-fits : goal.returns-clause-fits
 returns-clause-fits c =
     let i = c.self.inside in
     let b = made i.tables.project i.workers i.limit i.entries.items in
-    let l : IsLedger b = record { legal = c.self.invariant.legal; some = c.self.invariant.some; few = c.self.invariant.few; small = c.self.invariant.small } in
+    let l : IsLedger b = record { legal = c.self.invariant.legal; each = c.self.invariant.each; some = c.self.invariant.some; few = c.self.invariant.few; small = c.self.invariant.small } in
     let f = fits_in b l in
     let s = workers_in b l in
     let d : c.done_count.result ≡ done_in b = c.done_count.ensures.count ∙ ap (λ (a : List Answered). done_count a) c.self.invariant.is_answered in

@@ -1,13 +1,15 @@
 -- What the ledger keeps stands after one more entry.
 use Rattle.unit_registry.specs.Projects.{unit_count}
-use Rattle.std.proofs.Common.{◌≡◌, ℕ, zero, suc, ◌+◌, ◌<◌, ◌≤◌, Bool, true, false, cond, not, ◌||◌, ◌&&◌, ◌==◌, ◌⊎◌, inl, inr, List, [], ◌∷◌, ◌++◌, length, filter, fold, map, reverse, get_or, Option, Some, None, is_none, IfSome, refl, sym, ap, ap₂, subst, ◌∙◌, arith, length-append, vec_capacity}
+use Rattle.std.proofs.Common.{◌≡◌, ℕ, zero, suc, ◌+◌, ◌<◌, ◌≤◌, Bool, true, false, cond, not, ◌||◌, ◌&&◌, ◌==◌, ◌⊎◌, inl, inr, List, [], ◌∷◌, ◌++◌, length, filter, fold, map, reverse, get_or, Option, Some, None, is_none, IfSome, refl, sym, ap, ap₂, subst, ◌∙◌, arith, length-append, vec_capacity, All}
 use Rattle.std.proofs.lemmas.Bool.{and_parts, and_right, cases_eq, or_parts}
 use Rattle.std.proofs.lemmas.List.{length-map, get_or_push}
+use Rattle.std.proofs.lemmas.List.Elements.{All-push}
 use Rattle.std.specs.Global.{Vec}
 use Rattle.std.specs.List.{list_any}
 use Rattle.unit_registry.specs.declared.act.Act.{Act}
 use Rattle.histories.specs.declared.answer.Answer.{Answer}
 use Rattle.histories.specs.declared.entry.Entry.{Entry}
+use Rattle.histories.specs.Entries.{IsTraceEntry}
 use Rattle.histories.specs.declared.standing.Fate.{Fate}
 use Rattle.histories.specs.declared.answer.Said.{Said}
 use Rattle.histories.specs.declared.answer.Said.TheVariants.{Reply, Waits, Nothing}
@@ -21,7 +23,7 @@ use Rattle.unit_registry.specs.Projects.{ProjectView}
 use Rattle.histories.specs.Answered.{has_gone, is_open, who, wait_of, told_to_wait}
 use Rattle.histories.specs.Noted.{Noted, answered_of, answer_in, answer_by, fate, pending, reply_in, is_given_up}
 use Rattle.histories.specs.Histories.{and_then, noted_of, fault, IsLegal}
-use Rattle.histories.proofs.Members.{In-filter, In-reverse, In-map, In-map_from}
+use Rattle.histories.proofs.Members.{In-filter, In-map, In-map_from}
 use Rattle.histories.proofs.OneEntry.{who-same, is_open-parts}
 use Rattle.histories.proofs.WhatIsSaid.{waits_by_import, IsToldToWait}
 use Rattle.histories.proofs.Acyclic.{answered_entry, not_greeted}
@@ -31,8 +33,10 @@ use Rattle.histories.proofs.GoingOn.{candidates, still, pending_after, reply_new
 use Rattle.registry_tables.specs.declared.imports.Waiting.{Waiting}
 use Rattle.registry_tables.specs.Tabled.{Tabled, fate_in}
 use Rattle.registry_tables.specs.Stalled.{AreWithin, is_stalled_in, gives_up}
-use Rattle.registry_tables.specs.Imported.{Imported, AllWithin, IsTied, Settles, held, newest_waiting, WaitsWell, ClosesNone, may_end_unit}
+use Rattle.registry_tables.specs.Imported.{Imported, AllWithin, ended_places, IsTied, Settles, held, newest_waiting, WaitsWell, ClosesNone, may_end_unit}
+use Rattle.registry_core.specs.Ledgers.{answered_with}
 use Rattle.registry_core.specs.Standing.{Stands, waiting_of}
+use Rattle.registry_core.proofs.Answering.{answered_are, places_mapped}
 use Rattle.registry_tables.proofs.Pairs.{filter_alike_in}
 use Rattle.registry_tables.proofs.Openings.{filter_twice}
 use Rattle.registry_core.proofs.Entering.{middle, map_alike_in, filter_mapped, open_is}
@@ -230,11 +234,20 @@ module _ (t0 : Tabled) (i0 : Imported) (entries : Vec Entry) (workers limit : �
       let parts = and_parts (is_open (answered_of noted) v.conn) (is_none (reply_in t0.project noted v.place)) kept.1 in
       sym ((stands_on t0 i0 entries workers limit noted s).agreed v kept.0 parts.0) ∙ parts.1
 
-  pub idle : (s : Stands t0 i0 entries workers limit noted) → Passing → (given : List Bool) → GivesUp given → is_stalled_in tables1 workers waiting1 ≡ false → may_end_unit newest ≡ false → (w : Waiting) → In w waiting1 → is_none (fate_in (tables2 given) w.unit) ≡ true
-  idle s passes given gives stays ends w there =
+  -- by the marks of the units that were given up before it, none of them has ended with an entry that ends none
+  unended : (s : Stands t0 i0 entries workers limit noted) → Passing → (given : List Bool) → ((unit : ℕ) → get_or given unit false ≡ is_given_up noted unit) → may_end_unit newest ≡ false → (w : Waiting) → In w waiting1 → is_none (fate_in (tables2 given) w.unit) ≡ true
+  unended s passes given flag ends w there =
       let found = In-map (waiting_of after) w (candidates t0.project noted entry) (subst (λ (ws : List Waiting). In w ws) (waiting_is s) there) in
       subst (λ (x : Waiting). is_none (fate_in (tables2 given) x.unit) ≡ true) found.2
       (ap (λ o. is_none o) (same found.0.unit) ∙ not_ended s found.0 (cases_of newest.said (length noted) entry.conn (pending t0.project noted) found.0 found.1))
+    where
+      same : (unit : ℕ) → fate_in (tables2 given) unit ≡ fate t0.project noted unit
+      same unit =
+          ap₂ (λ (a : List Answered) (b : Bool). fate_with t0.project (newest ∷ a) b unit) s.is_answered (flag unit)
+          ∙ same_fate t0.project workers limit noted entry (stands_on t0 i0 entries workers limit noted s) passes ends (is_given_up noted unit) unit
+
+  pub idle : (s : Stands t0 i0 entries workers limit noted) → Passing → (given : List Bool) → GivesUp given → is_stalled_in tables1 workers waiting1 ≡ false → may_end_unit newest ≡ false → (w : Waiting) → In w waiting1 → is_none (fate_in (tables2 given) w.unit) ≡ true
+  idle s passes given gives stays ends w there = unended s passes given flag ends w there
     where
       flag : (unit : ℕ) → get_or given unit false ≡ is_given_up noted unit
       flag unit = gives unit ∙ ap (λ b. get_or t0.given unit false || (b && list_any (λ w. w.unit == unit && gives_up tables1 w) waiting1)) stays ∙ or_none (get_or t0.given unit false) ∙ s.is_given unit
@@ -242,11 +255,6 @@ module _ (t0 : Tabled) (i0 : Imported) (entries : Vec Entry) (workers limit : �
           or_none : (b : Bool) → (b || false) ≡ b
           or_none true = refl
           or_none false = refl
-
-      same : (unit : ℕ) → fate_in (tables2 given) unit ≡ fate t0.project noted unit
-      same unit =
-          ap₂ (λ (a : List Answered) (b : Bool). fate_with t0.project (newest ∷ a) b unit) s.is_answered (flag unit)
-          ∙ same_fate t0.project workers limit noted entry (stands_on t0 i0 entries workers limit noted s) passes ends (is_given_up noted unit) unit
 
   -- who still waits
   open_test : Stands t0 i0 entries workers limit noted → Passing → (w : Wait) → In w (candidates t0.project noted entry) → is_open (answered_of after) w.conn ≡ not (goes entry.act && w.conn == entry.conn)
@@ -318,6 +326,15 @@ module _ (t0 : Tabled) (i0 : Imported) (entries : Vec Entry) (workers limit : �
           let q = known.known unit entry.conn (holder_of (who (answered_of after) entry.conn) unit b) in
           let r : Some conn ≡ Some entry.conn = sym p ∙ q in cc
 
+  -- the imports that got their replies with the entry
+  pub answered_is : (s : Stands t0 i0 entries workers limit noted) → Passing → (given : List Bool) → GivesUp given → ended_places (tables2 given) waiting1 ≡ answered_with t0.project after
+  answered_is s passes given gives =
+      ap (λ (ws : List Waiting). ended_places (tables2 given) ws) (waiting_is s)
+      ∙ ap (λ (ws : List Waiting). reverse (map (λ (w : Waiting). w.place) ws)) (filter_mapped (waiting_of after) (λ w. not (is_none (fate_in (tables2 given) w.unit))) (candidates t0.project noted entry))
+      ∙ ap reverse (places_mapped (waiting_of after) (λ (w : Wait). w.place) (λ (w : Waiting). w.place) (λ w. refl) (filter (λ (w : Wait). not (is_none (fate_in (tables2 given) w.unit))) (candidates t0.project noted entry)))
+      ∙ ap (λ (ws : List Wait). reverse (map (λ (w : Wait). w.place) ws)) (filter_alike_in (λ (w : Wait). not (is_none (fate_in (tables2 given) w.unit))) (λ w. not (is_none (fate t0.project after w.unit))) (candidates t0.project noted entry) (λ w there. ap (λ o. not (is_none o)) (fate_told (tables2 given) after (tells_after s passes given gives) w.unit))
+      ∙ answered_are t0.project workers limit noted entry (stands_on t0 i0 entries workers limit noted s) passes)
+
   -- the imports when those of a connection that goes wait no more
   abbrev pub imports3 : Imported → Imported
   imports3 i2 = record i2 { waiting = filter (λ w. not (goes entry.act && w.conn == entry.conn)) i2.waiting }
@@ -328,14 +345,16 @@ module _ (t0 : Tabled) (i0 : Imported) (entries : Vec Entry) (workers limit : �
       ∙ sym (noted_push t0.project workers entries.items entry)
       ∙ sym (ap (λ (es : List Entry). noted_of t0.project workers es) items)
 
-  pub stands_after : (s : Stands t0 i0 entries workers limit noted) → Passing → (given : List Bool) → GivesUp given → (i2 : Imported) → i2.waiting ≡ filter (λ w. is_none (fate_in (tables2 given) w.unit)) waiting1 → ((reply : ℕ → Option Answer) → Settles (tables2 given) waiting1 (i0.replies ++ answer_in newest.said ∷ []) reply → (k : ℕ) → k < length (i0.replies ++ answer_in newest.said ∷ []) → get_or i2.replies k None ≡ reply k) → length i2.replies ≡ length (i0.replies ++ answer_in newest.said ∷ []) → i2.room ≡ i0.room → i2.units ≡ i0.units → (entries' : Vec Entry) → entries'.items ≡ entries.items ++ entry ∷ [] → limit ≤ vec_capacity entries' → WaitsWell newest.said entry.act (unit_count t0.project) → (is_done entry.act ≡ false → entry.conn < t0.room) → Stands (tables2 given) (imports3 i2) entries' workers limit (noted_of t0.project workers entries'.items)
-  stands_after s passes given gives i2 waits replies len room units entries' items capacity well below =
+  pub stands_after : (s : Stands t0 i0 entries workers limit noted) → Passing → IsTraceEntry entry → (given : List Bool) → GivesUp given → (i2 : Imported) → i2.waiting ≡ filter (λ w. is_none (fate_in (tables2 given) w.unit)) waiting1 → ((reply : ℕ → Option Answer) → Settles (tables2 given) waiting1 (i0.replies ++ answer_in newest.said ∷ []) reply → (k : ℕ) → k < length (i0.replies ++ answer_in newest.said ∷ []) → get_or i2.replies k None ≡ reply k) → i2.answered ≡ ended_places (tables2 given) waiting1 → length i2.replies ≡ length (i0.replies ++ answer_in newest.said ∷ []) → i2.room ≡ i0.room → i2.units ≡ i0.units → i2.conns ≡ i0.conns → (entries' : Vec Entry) → entries'.items ≡ entries.items ++ entry ∷ [] → limit ≤ vec_capacity entries' → WaitsWell newest.said entry.act (unit_count t0.project) → (is_done entry.act ≡ false → entry.conn < t0.room) → Stands (tables2 given) (imports3 i2) entries' workers limit (noted_of t0.project workers entries'.items)
+  stands_after s passes written given gives i2 waits replies lasts len room units conns entries' items capacity well below =
       subst (λ (n : List Noted). Stands (tables2 given) (imports3 i2) entries' workers limit n) (noted_is s entries' items) (record {
         is_noted = noted_is s entries' items;
         legal = subst (λ (es : List Entry). IsLegal t0.project workers limit es) (sym items) (legal_push t0.project workers limit entries.items entry s.legal (subst (λ (n : List Noted). is_none (fault t0.project workers limit n entry) ≡ true) s.is_noted passes));
+        each = subst (All IsTraceEntry) (sym items) (All-push IsTraceEntry entries.items entry s.each written);
         is_answered = (tells_after s passes given gives).answered;
         is_given = (tells_after s passes given gives).given;
         is_waiting = ap (λ (ws : List Waiting). filter (λ w. not (goes entry.act && w.conn == entry.conn)) ws) waits ∙ waiting_after s passes given gives;
+        is_last = lasts ∙ answered_is s passes given gives;
         is_reply = λ k h. replies (reply_in t0.project after) (settles s passes given gives) k (in_replies k h);
         replies_len = reply_len;
         within = record { units = λ w there. all_within.units w (was w there); places = λ w there. (let l = all_within.places w (was w there) in let m = count in omega arith) };
@@ -343,6 +362,7 @@ module _ (t0 : Tabled) (i0 : Imported) (entries : Vec Entry) (workers limit : �
         has_room = s.has_room;
         has_seats = s.has_seats;
         has_places = s.has_places;
+        has_conns = conns ∙ s.has_conns;
         has_import_room = room ∙ s.has_import_room;
         has_units = units ∙ s.has_units;
         some = s.some;
@@ -381,15 +401,16 @@ module _ (t0 : Tabled) (i0 : Imported) (entries : Vec Entry) (workers limit : �
   RepliesFrom t2 i1 i2 = (reply : ℕ → Option Answer) → Settles t2 i1.waiting i1.replies reply → (k : ℕ) → k < length i1.replies → get_or i2.replies k None ≡ reply k
 
   -- the same, by what the calls ensure
-  pub stands_by : Stands t0 i0 entries workers limit noted → Passing → (t1 t2 : Tabled) (i1 i2 i3 : Imported) (entries' : Vec Entry) → t1 ≡ tables1 → i1 ≡ imports1 → t2 ≡ record t1 { given = t2.given } → GivesFrom t1 i1 t2.given → i2.waiting ≡ filter (λ w. is_none (fate_in t2 w.unit)) i1.waiting → RepliesFrom t2 i1 i2 → (i2.units ≡ i1.units) × (i2.room ≡ i1.room) × (length i2.replies ≡ length i1.replies) → i3 ≡ imports3 i2 → entries'.items ≡ entries.items ++ entry ∷ [] → limit ≤ vec_capacity entries' → WaitsWell newest.said entry.act (unit_count t0.project) → (is_done entry.act ≡ false → entry.conn < t0.room) → Stands t2 i3 entries' workers limit (noted_of t2.project workers entries'.items)
-  stands_by s passes t1 t2 i1 i2 i3 entries' e1 ei e2 gives waits replies sizes e3 items capacity well below =
+  pub stands_by : Stands t0 i0 entries workers limit noted → Passing → IsTraceEntry entry → (t1 t2 : Tabled) (i1 i2 i3 : Imported) (entries' : Vec Entry) → t1 ≡ tables1 → i1 ≡ imports1 → t2 ≡ record t1 { given = t2.given } → GivesFrom t1 i1 t2.given → i2.waiting ≡ filter (λ w. is_none (fate_in t2 w.unit)) i1.waiting → RepliesFrom t2 i1 i2 → i2.answered ≡ ended_places t2 i1.waiting → i2.conns ≡ i1.conns → (i2.units ≡ i1.units) × (i2.room ≡ i1.room) × (length i2.replies ≡ length i1.replies) → i3 ≡ imports3 i2 → entries'.items ≡ entries.items ++ entry ∷ [] → limit ≤ vec_capacity entries' → WaitsWell newest.said entry.act (unit_count t0.project) → (is_done entry.act ≡ false → entry.conn < t0.room) → Stands t2 i3 entries' workers limit (noted_of t2.project workers entries'.items)
+  stands_by s passes written t1 t2 i1 i2 i3 entries' e1 ei e2 gives waits replies lasts conns sizes e3 items capacity well below =
       let t2_is : t2 ≡ tables2 t2.given = e2 ∙ ap (λ (t : Tabled). with_given t t2.given) e1 in
       let gives1 : GivesFrom tables1 imports1 t2.given = subst (λ (t : Tabled). GivesFrom t imports1 t2.given) e1 (subst (λ (i : Imported). GivesFrom t1 i t2.given) ei gives) in
       let waits1 : i2.waiting ≡ filter (λ w. is_none (fate_in (tables2 t2.given) w.unit)) waiting1 = waits ∙ ap₂ (λ (t : Tabled) (i : Imported). filter (λ w. is_none (fate_in t w.unit)) i.waiting) t2_is ei in
+      let lasts1 : i2.answered ≡ ended_places (tables2 t2.given) waiting1 = lasts ∙ ap₂ (λ (t : Tabled) (i : Imported). ended_places t i.waiting) t2_is ei in
       let replies1 : RepliesFrom (tables2 t2.given) imports1 i2 = subst (λ (t : Tabled). RepliesFrom t imports1 i2) t2_is (subst (λ (i : Imported). RepliesFrom t2 i i2) ei replies) in
       subst (λ (i : Imported). Stands t2 i entries' workers limit (noted_of t2.project workers entries'.items)) (sym e3)
       (subst (λ (t : Tabled). Stands t (imports3 i2) entries' workers limit (noted_of t.project workers entries'.items)) (sym t2_is)
-      (stands_after s passes t2.given gives1 i2 waits1 replies1 (sizes.2 ∙ ap (λ (i : Imported). length i.replies) ei) (sizes.1 ∙ ap (λ (i : Imported). i.room) ei) (sizes.0 ∙ ap (λ (i : Imported). i.units) ei) entries' items capacity well below))
+      (stands_after s passes written t2.given gives1 i2 waits1 replies1 lasts1 (sizes.2 ∙ ap (λ (i : Imported). length i.replies) ei) (sizes.1 ∙ ap (λ (i : Imported). i.room) ei) (sizes.0 ∙ ap (λ (i : Imported). i.units) ei) (conns ∙ ap (λ (i : Imported). i.conns) ei) entries' items capacity well below))
     where
       with_given : Tabled → List Bool → Tabled
       with_given t given = record t { given = given }
@@ -398,12 +419,12 @@ module _ (t0 : Tabled) (i0 : Imported) (entries : Vec Entry) (workers limit : �
   within1 s well = newest_within newest.said entry.act (length entries.items) entry.conn (held (who (newest ∷ t0.answered) entry.conn)) i0.waiting (unit_count t0.project) s.within well
 
   -- what the calls require
-  pub are_within : Stands t0 i0 entries workers limit noted → WaitsWell newest.said entry.act (unit_count t0.project) → (is_done entry.act ≡ false → entry.conn < t0.room) → (t1 : Tabled) (i1 : Imported) (ws : List Waiting) → t1 ≡ tables1 → i1 ≡ imports1 → reverse ws ≡ i1.waiting → AreWithin t1 ws
-  are_within s well below t1 i1 ws e1 ei back =
-      subst (λ (t : Tabled). AreWithin t ws) (sym e1) (record { units = λ w there. (within1 s well).units w (was w there); conns = λ w there. (newest_conns newest.said entry.act (length entries.items) entry.conn (held (who (newest ∷ t0.answered) entry.conn)) i0.waiting (unit_count t0.project) t0.room s.conns well below w (was w there)) })
+  pub are_within : Stands t0 i0 entries workers limit noted → WaitsWell newest.said entry.act (unit_count t0.project) → (is_done entry.act ≡ false → entry.conn < t0.room) → (t1 : Tabled) (i1 : Imported) → t1 ≡ tables1 → i1 ≡ imports1 → AreWithin t1 i1.waiting
+  are_within s well below t1 i1 e1 ei =
+      subst (λ (t : Tabled). AreWithin t i1.waiting) (sym e1) (record { units = λ w there. (within1 s well).units w (was w there); conns = λ w there. (newest_conns newest.said entry.act (length entries.items) entry.conn (held (who (newest ∷ t0.answered) entry.conn)) i0.waiting (unit_count t0.project) t0.room s.conns well below w (was w there)) })
     where
-      was : (w : Waiting) → In w ws → In w waiting1
-      was w there = subst (λ (xs : List Waiting). In w xs) (back ∙ ap (λ (i : Imported). i.waiting) ei) (In-reverse w ws there)
+      was : (w : Waiting) → In w i1.waiting → In w waiting1
+      was w there = subst (λ (xs : List Waiting). In w xs) (ap (λ (i : Imported). i.waiting) ei) there
 
   pub all_within_by : Stands t0 i0 entries workers limit noted → WaitsWell newest.said entry.act (unit_count t0.project) → (t1 t2 : Tabled) (i1 : Imported) → t1 ≡ tables1 → i1 ≡ imports1 → t2 ≡ record t1 { given = t2.given } → AllWithin i1.waiting (unit_count t2.project) (length i1.replies)
   all_within_by s well t1 t2 i1 e1 ei e2 =
@@ -414,6 +435,10 @@ module _ (t0 : Tabled) (i0 : Imported) (entries : Vec Entry) (workers limit : �
   pub tied_by : Stands t0 i0 entries workers limit noted → Passing → (t1 t2 : Tabled) (i1 i2 : Imported) → t1 ≡ tables1 → i1 ≡ imports1 → t2 ≡ record t1 { given = t2.given } → i2.waiting ≡ filter (λ w. is_none (fate_in t2 w.unit)) i1.waiting → (w : Waiting) → In w i2.waiting → IsTied entry.conn (held (who t2.answered entry.conn)) w
   tied_by s passes t1 t2 i1 i2 e1 ei e2 waits w there =
       subst (λ (a : List Answered). IsTied entry.conn (held (who a entry.conn)) w) (sym (ap (λ (t : Tabled). t.answered) e2 ∙ ap (λ (t : Tabled). t.answered) e1)) (tied s passes w (subst (λ (i : Imported). In w i.waiting) ei (In-filter (λ x. is_none (fate_in t2 x.unit)) w i1.waiting (subst (λ (xs : List Waiting). In w xs) waits there)).0))
+
+  pub idle_first : (s : Stands t0 i0 entries workers limit noted) → Passing → (t1 : Tabled) (i1 : Imported) → t1 ≡ tables1 → i1 ≡ imports1 → may_end_unit newest ≡ false → (w : Waiting) → In w i1.waiting → is_none (fate_in t1 w.unit) ≡ true
+  idle_first s passes t1 i1 e1 ei ends w there =
+      subst (λ (t : Tabled). is_none (fate_in t w.unit) ≡ true) (sym e1) (unended s passes t0.given s.is_given ends w (subst (λ (i : Imported). In w i.waiting) ei there))
 
   pub idle_by : Stands t0 i0 entries workers limit noted → Passing → (t1 t2 : Tabled) (i1 : Imported) (stalled ends : Bool) → t1 ≡ tables1 → i1 ≡ imports1 → t2 ≡ record t1 { given = t2.given } → GivesFrom t1 i1 t2.given → stalled ≡ is_stalled_in t1 workers i1.waiting → ends ≡ (stalled || may_end_unit newest) → ends ≡ false → (w : Waiting) → In w i1.waiting → is_none (fate_in t2 w.unit) ≡ true
   idle_by s passes t1 t2 i1 stalled ends e1 ei e2 gives is_stall is none w there =
