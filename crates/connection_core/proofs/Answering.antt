@@ -9,6 +9,7 @@ use Rattle.connection_replies.specs.declared.line_reply.LineReply.TheVariants as
 use Rattle.connection_replies.specs.ReplyLines.{reply_lines}
 use Rattle.connection_core.specs.declared.asked.Asked.{Asked}
 use Rattle.connection_core.specs.Asking.{Block, asked_of, is_refused}
+use Rattle.connection_core.proofs.Lookings.{parts_of}
 use Rattle.connection_core.specs.Answers.{answer_first, dealt, replies_to, refusals, block_answer, request_count, joined, answers_at, all_requests}
 
 joined-none : (text : Option (List ℕ)) → joined text (Some []) ≡ text
@@ -38,14 +39,17 @@ block-more project f lines places more le = ap (option_map (reply_lines project)
     by false e = ap (λ (r : Option (List LineReply)). cond (is_refused lines) (Some (refusals lines)) r) (dealt-more f lines places more (omega (arith, le, ap (λ b. cond b 0 (length lines)) e)))
 
 -- places behind those of the blocks' requests change nothing
-pub answers-more : (project : ProjectView) (f : ℕ → Option Answer) (blocks : List Block) (places more : List ℕ) → length places ≡ all_requests project blocks → answers_at project f blocks (places ++ more) ≡ answers_at project f blocks places
-answers-more project f [] places more e = refl
-answers-more project f (first ∷ blocks) places more e =
+pub answers-spare : (project : ProjectView) (f : ℕ → Option Answer) (blocks : List Block) (places more : List ℕ) → all_requests project blocks ≤ length places → answers_at project f blocks (places ++ more) ≡ answers_at project f blocks places
+answers-spare project f [] places more le = refl
+answers-spare project f (first ∷ blocks) places more few =
     let count = request_count (asked_of project first) in
-    let le : count ≤ length places = omega (arith, e) in
+    let le : count ≤ length places = omega (arith, few) in
     ap (λ (t : Option (List ℕ)). joined t (answers_at project f blocks (drop count (places ++ more)))) (block-more project f (asked_of project first) places more le)
     ∙ ap (λ (ps : List ℕ). joined (block_answer project f (asked_of project first) places) (answers_at project f blocks ps)) (drop-more count places more le)
-    ∙ ap (joined (block_answer project f (asked_of project first) places)) (answers-more project f blocks (drop count places) more (length-drop count places ∙ omega (arith, e)))
+    ∙ ap (joined (block_answer project f (asked_of project first) places)) (answers-spare project f blocks (drop count places) more (omega (arith, length-drop count places, few)))
+
+pub answers-more : (project : ProjectView) (f : ℕ → Option Answer) (blocks : List Block) (places more : List ℕ) → length places ≡ all_requests project blocks → answers_at project f blocks (places ++ more) ≡ answers_at project f blocks places
+answers-more project f blocks places more e = answers-spare project f blocks places more (omega (arith, e))
 
 -- the answers to blocks and one block more, whose requests have these places
 pub answers-push : (project : ProjectView) (f : ℕ → Option Answer) (blocks : List Block) (block : Block) (places more : List ℕ) → length places ≡ all_requests project blocks
@@ -110,3 +114,37 @@ module _ (f g : ℕ → Option Answer) (stay : (place : ℕ) (answer : Answer) �
           ∙ ap (joined (Some a)) (behind b ey) ∙ h
       by (Some a) None behind ex ey h = absurd cc
       by None y behind ex ey h = absurd cc
+
+-- ---- answers that are all there have all their places
+
+mapped_some : {A B : Type 0} (f : A → B) (r : Option A) (y : B) → option_map f r ≡ Some y → (x : A) × (r ≡ Some x)
+mapped_some f (Some x) y e = (x, refl)
+mapped_some f None y e = absurd cc
+
+joined_some : (first second : Option (List ℕ)) (text : List ℕ) → joined first second ≡ Some text → (a : List ℕ) × (b : List ℕ) × (first ≡ Some a) × (second ≡ Some b)
+joined_some (Some a) (Some b) text e = (a, b, refl, refl)
+joined_some (Some a) None text e = absurd cc
+joined_some None second text e = absurd cc
+
+dealt_enough : (f : ℕ → Option Answer) (lines : List Asked) (places : List ℕ) (given : List LineReply) → dealt f lines places ≡ Some given → length lines ≤ length places
+dealt_enough f [] places given e = omega arith
+dealt_enough f (a ∷ lines) [] given e = absurd cc
+dealt_enough f (a ∷ lines) (p ∷ places) given e =
+    let parts = parts_of (f p) (dealt f lines places) given e in
+    omega (arith, dealt_enough f lines places parts.1 parts.3)
+
+block_enough : (project : ProjectView) (f : ℕ → Option Answer) (lines : List Asked) (places text : List ℕ) → block_answer project f lines places ≡ Some text → request_count lines ≤ length places
+block_enough project f lines places text e = by (is_refused lines) refl
+  where
+    by : (b : Bool) → is_refused lines ≡ b → request_count lines ≤ length places
+    by true is = omega (arith, ap (λ b. cond b 0 (length lines)) is)
+    by false is =
+        let given = mapped_some (reply_lines project) (replies_to f lines places) text e in
+        omega (arith, ap (λ b. cond b 0 (length lines)) is, dealt_enough f lines places given.0 (sym (ap (λ b. cond b (Some (refusals lines)) (dealt f lines places)) is) ∙ given.1))
+
+pub answers_enough : (project : ProjectView) (f : ℕ → Option Answer) (blocks : List Block) (places text : List ℕ) → answers_at project f blocks places ≡ Some text → all_requests project blocks ≤ length places
+answers_enough project f [] places text e = omega arith
+answers_enough project f (block ∷ blocks) places text e =
+    let count = request_count (asked_of project block) in
+    let parts = joined_some (block_answer project f (asked_of project block) places) (answers_at project f blocks (drop count places)) text e in
+    omega (arith, block_enough project f (asked_of project block) places parts.0 parts.2, answers_enough project f blocks (drop count places) parts.1 parts.3, length-drop count places)

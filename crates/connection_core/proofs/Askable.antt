@@ -17,6 +17,7 @@ use Rattle.unit_registry.specs.Acts.{act as act_by}
 use Rattle.unit_registry.specs.Kinds.{fits, is_plain_kind}
 use Rattle.unit_registry.specs.Projects.{ProjectView, NamesFit, find_unit, find_ident, is_plain, kind_of, name_of, own_name, own_ident, unit_count}
 use Rattle.unit_registry.proofs.Found.{find_by-within, find_by-some, find_by_at, has_word-same}
+use Rattle.histories.specs.Entries.{has_its_unit}
 use Rattle.histories.specs.Histories.{is_unit_out_of_range}
 use Rattle.connection_core.specs.declared.asked.Asked.{Asked}
 use Rattle.connection_core.specs.Asking.{Block, asked_in, asked_by, asked_of}
@@ -59,17 +60,22 @@ module _ (project : ProjectView) (fit : NamesFit project) where
   above_not : (unit : ℕ) → unit < unit_count project → (nat_le (unit_count project) unit || false) ≡ false
   above_not unit lt = ap (λ b. b || false) (below unit lt)
 
+  -- a report without an item
+  whole_report : (unit : Option ℕ) → has_its_unit (act.Compiled unit false) ≡ true
+  whole_report None = refl
+  whole_report (Some unit) = refl
+
   can_ask : (asks : asked.Asked) → CanAsk project (act_by project asks false)
-  can_ask (asked.Hello version compiler ident) = record { asks = refl; request = refl; range = by_ident ident (is_unit_out_of_range project (act.Hello version (find_ident project ident))) (λ unit lt. above_not unit lt); plain = refl }
-  can_ask asked.Repo = record { asks = refl; request = refl; range = refl; plain = refl }
-  can_ask (asked.Export name flags) = record { asks = refl; request = refl; range = by_name name (is_unit_out_of_range project (act.Export (find_unit project name))) (λ unit lt named. neither unit lt named); plain = refl }
-  can_ask (asked.Import name flags) = record { asks = refl; request = refl; range = by_name name (is_unit_out_of_range project (act_by project (asked.Import name flags) false)) (λ unit lt named. neither unit lt named); plain = refl }
-  can_ask (asked.Compiled name flags) = record { asks = refl; request = refl; range = by_name name (is_unit_out_of_range project (act_by project (asked.Compiled name flags) false)) (λ unit lt named. neither unit lt named); plain = refl }
-  can_ask (asked.Translate name flags) = record { asks = refl; request = refl; range = refl; plain = refl }
-  can_ask (asked.Bad why) = record { asks = refl; request = refl; range = refl; plain = refl }
+  can_ask (asked.Hello version compiler ident) = record { asks = refl; request = refl; range = by_ident ident (is_unit_out_of_range project (act.Hello version (find_ident project ident))) (λ unit lt. above_not unit lt); whole = refl; plain = refl }
+  can_ask asked.Repo = record { asks = refl; request = refl; range = refl; whole = refl; plain = refl }
+  can_ask (asked.Export name flags) = record { asks = refl; request = refl; range = by_name name (is_unit_out_of_range project (act.Export (find_unit project name))) (λ unit lt named. neither unit lt named); whole = refl; plain = refl }
+  can_ask (asked.Import name flags) = record { asks = refl; request = refl; range = by_name name (is_unit_out_of_range project (act_by project (asked.Import name flags) false)) (λ unit lt named. neither unit lt named); whole = refl; plain = refl }
+  can_ask (asked.Compiled name flags) = record { asks = refl; request = refl; range = by_name name (is_unit_out_of_range project (act_by project (asked.Compiled name flags) false)) (λ unit lt named. neither unit lt named); whole = whole_report (find_unit project name); plain = refl }
+  can_ask (asked.Translate name flags) = record { asks = refl; request = refl; range = refl; whole = refl; plain = refl }
+  can_ask (asked.Bad why) = record { asks = refl; request = refl; range = refl; whole = refl; plain = refl }
 
   line_can : (m : Meaning) → LineCanAsk project (asked_in project m)
-  line_can Blank = record { asks = refl; request = refl; range = refl; plain = refl }
+  line_can Blank = record { asks = refl; request = refl; range = refl; whole = refl; plain = refl }
   line_can (Words words) = can_ask (request words)
   line_can (MalformedLine place reason) = tt
 

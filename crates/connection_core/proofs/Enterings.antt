@@ -1,7 +1,9 @@
 -- Acts that are entered at a desk, one after another.
-use Rattle.std.proofs.Common.{◌≡◌, ◌≢◌, inl, inr, ℕ, suc, ◌+◌, ◌≤◌, ◌==◌, ◌&&◌, ◌||◌, Bool, true, false, cond, List, [], ◌∷◌, ◌++◌, length, drop, Contains, Option, Some, None, Ok, Err, Result, IfOk, IfErr, IsTrue, refl, sym, ap, subst, ◌∙◌, append_assoc, arith}
+use Rattle.std.proofs.Common.{◌≡◌, ◌≢◌, inl, inr, ℕ, suc, ◌+◌, ◌≤◌, ◌==◌, ◌&&◌, ◌||◌, Bool, true, false, cond, List, [], ◌∷◌, ◌++◌, length, drop, get_or, All, Contains, Option, Some, None, Ok, Err, Result, IfOk, IfErr, IsTrue, refl, sym, ap, subst, ◌∙◌, append_assoc, arith}
 use Rattle.std.proofs.lemmas.Bool.{ne_eqb, eq-eqb}
 use Rattle.std.proofs.lemmas.List.{append-nil, length-append, drop_all}
+use Rattle.std.proofs.lemmas.List.Elements.{All-push}
+use Rattle.std.specs.Prelude.{slice_get}
 use Rattle.std.specs.List.{AllByRecursion, list_any}
 use Rattle.unit_registry.specs.declared.act.Act.{Act as Acts}
 use Rattle.unit_registry.specs.declared.act.Act.TheVariants as act
@@ -10,8 +12,8 @@ use Rattle.histories.specs.Counts.{Effect, Asks, effect_of, ChangesOpen, Changes
 use Rattle.histories.proofs.Members.{In}
 use Rattle.registry_core.specs.declared.full.Full.{Full}
 use Rattle.registry_core.specs.Ledgers.{entry, IsFull}
-use Rattle.registry_core.specs.Desks.{DeskState, Looks, Adds, IsSound, connections_with, uses}
-use Rattle.registry_core.proofs.Desks.{looks_open, looks_apart, adds_apart, adds_own, adds_is_open, stays_further, stays_same}
+use Rattle.registry_core.specs.Desks.{DeskState, Looks, Adds, IsSound, IsEntryOf, connections_with, uses}
+use Rattle.registry_core.proofs.Desks.{slice_get_before, slice_get_behind, looks_open, looks_apart, adds_apart, adds_own, adds_is_open, stays_further, stays_same}
 use Rattle.connection_core.specs.declared.asked.Asked.{Asked}
 use Rattle.connection_core.specs.declared.asked.Asked.TheVariants.{Act, Malformed}
 use Rattle.connection_core.specs.declared.entering.Stash.{Stash}
@@ -72,11 +74,26 @@ enters_nothing conn desk = record {
   own = [];
   places = sym (append-nil desk.places);
   as_many = refl;
+  of_conn = λ k d below. absurd (omega (arith, below));
   connections = refl;
   opened = refl;
   dones = refl;
   room = omega arith;
   stays = stays_same desk;
+}
+
+-- entries stay where they are in a longer history
+entries_of : (conn : ℕ) (before since after : List Entry) (own : List ℕ) → after ≡ before ++ since → All (IsEntryOf conn before) own → All (IsEntryOf conn after) own
+entries_of conn before since after own history all = λ k d below. let at = all k d below in record {
+  act = at.act;
+  there = ap (λ (es : List Entry). slice_get es (get_or own k d)) history ∙ slice_get_before before since (get_or own k d) (entry conn at.act) at.there;
+}
+
+-- the newest entry is at its place
+newest_of : (conn place : ℕ) (asked : Acts) (before after : List Entry) → after ≡ before ++ entry conn asked ∷ [] → place ≡ length before → IsEntryOf conn after place
+newest_of conn place asked before after history at = record {
+  act = asked;
+  there = ap (λ (es : List Entry). slice_get es place) history ∙ slice_get_behind before (entry conn asked ∷ []) 0 place (omega (arith, at));
 }
 
 asks_opened : (effect : Effect) (before after : ℕ) → effect ≡ Asks → ChangesOpen effect before after → after ≡ before
@@ -107,6 +124,9 @@ module _ {Held : Type 0} (conn : ℕ) (asked : List Acts) (requested : List ℕ)
         own = h.own ++ place ∷ [];
         places = adds.places ∙ ap (λ (xs : List ℕ). xs ++ place ∷ []) h.places ∙ append_assoc first.places h.own (place ∷ []);
         as_many = length-append h.own (place ∷ []) ∙ ap (λ n. n + 1) h.as_many ∙ sym (length-append asked (newest ∷ []));
+        of_conn = All-push (IsEntryOf conn after.seen.entries) h.own place
+            (entries_of conn before.seen.entries (adds.since ++ entry conn newest ∷ []) after.seen.entries h.own (adds.history ∙ append_assoc before.seen.entries adds.since (entry conn newest ∷ [])) h.of_conn)
+            (newest_of conn place newest (before.seen.entries ++ adds.since) after.seen.entries adds.history adds.place_is);
         connections = adds.connections ∙ ap (λ (x : Effect). connections_with x conn before.connections) asks ∙ h.connections;
         opened = asks_opened (effect_of newest) before.opened after.opened asks adds.opened ∙ h.opened;
         dones = asks_dones (effect_of newest) before.dones after.dones asks adds.dones ∙ h.dones;
@@ -128,6 +148,7 @@ module _ {Held : Type 0} (conn : ℕ) (asked : List Acts) (requested : List ℕ)
         own = h.own;
         places = looks.places ∙ h.places;
         as_many = h.as_many;
+        of_conn = entries_of conn before.seen.entries looks.since after.seen.entries h.own looks.history h.of_conn;
         connections = looks.connections ∙ h.connections;
         opened = looks.opened ∙ h.opened;
         dones = looks.dones ∙ h.dones;

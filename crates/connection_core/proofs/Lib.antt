@@ -2,7 +2,9 @@ pub mod Rows
 pub mod LineLemmas
 pub mod TakeLemmas
 pub mod Enterings
+pub mod Beside
 pub mod Lookings
 pub mod Answering
+pub mod Staying
 pub mod Askable
 pub mod Sessioning

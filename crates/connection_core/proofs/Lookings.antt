@@ -1,6 +1,7 @@
 -- Answers that are looked at, one place after another.
-use Rattle.std.proofs.Common.{◌≡◌, ℕ, false, cond, List, [], ◌∷◌, ◌++◌, length, Option, Some, None, refl, sym, ap, ◌∙◌, append_assoc, arith}
-use Rattle.std.proofs.lemmas.List.{append-nil}
+use Rattle.std.proofs.Common.{◌≡◌, ℕ, ◌+◌, ◌<◌, false, cond, List, [], ◌∷◌, ◌++◌, length, take, drop, get_or, All, IsTrue, Option, Some, None, is_some, refl, sym, ap, ◌∙◌, append_assoc, arith}
+use Rattle.std.proofs.lemmas.List.{append-nil, take-append-drop, drop_more}
+use Rattle.std.proofs.lemmas.List.Elements.{All-cons}
 use Rattle.histories.specs.declared.answer.Answer.{Answer}
 use Rattle.connection_replies.specs.declared.line_reply.LineReply.{LineReply}
 use Rattle.connection_replies.specs.declared.line_reply.LineReply.TheVariants as line
@@ -9,7 +10,7 @@ use Rattle.registry_core.specs.Desks.{DeskState, Looks}
 use Rattle.registry_core.proofs.Desks.{reply_stays, looks_go_on, stays_same}
 use Rattle.connection_core.specs.declared.asked.Asked.{Asked}
 use Rattle.connection_core.specs.Asking.{is_refused}
-use Rattle.connection_core.specs.Answers.{answer_first, dealt, replies_to, refusals}
+use Rattle.connection_core.specs.Answers.{IsFirstMissing, answer_first, dealt, replies_to, refusals}
 use Rattle.connection_core.specs.Replying.{looked}
 
 pub looks_same : {Held : Type 0} (desk : DeskState Held) → Looks desk desk
@@ -18,7 +19,7 @@ looks_same desk = record { since = []; history = sym (append-nil desk.seen.entri
 first_some : (answer : Answer) (replies : List LineReply) (a : Option Answer) (b : Option (List LineReply)) → a ≡ Some answer → b ≡ Some replies → answer_first a b ≡ Some (line.Answer answer ∷ replies)
 first_some answer replies a b e f = ap (λ x. answer_first x b) e ∙ ap (λ (y : Option (List LineReply)). answer_first (Some answer) y) f
 
-parts_of : (a : Option Answer) (b : Option (List LineReply)) (given : List LineReply) → answer_first a b ≡ Some given
+pub parts_of : (a : Option Answer) (b : Option (List LineReply)) (given : List LineReply) → answer_first a b ≡ Some given
     → (answer : Answer) × (replies : List LineReply) × (a ≡ Some answer) × (b ≡ Some replies) × (given ≡ line.Answer answer ∷ replies)
 parts_of (Some answer) (Some replies) given e = (answer, replies, refl, refl, sym (let f : line.Answer answer ∷ replies ≡ given = cc in f))
 parts_of (Some answer) None given e = absurd cc
@@ -58,3 +59,22 @@ good_replies f lines places good e = ap (λ b. cond b (Some (refusals lines)) (d
 
 pub pushed_reply : (old given before after : List LineReply) (newest : LineReply) → after ≡ before ++ newest ∷ [] → before ≡ old ++ given → after ≡ old ++ (given ++ newest ∷ [])
 pushed_reply old given before after newest e h = e ∙ ap (λ (xs : List LineReply). xs ++ newest ∷ []) h ∙ append_assoc old given (newest ∷ [])
+
+-- ---- the first place without an answer
+
+all_answered : (f : ℕ → Option Answer) (places : List ℕ) (given : List LineReply) → looked f places ≡ Some given → All (λ earlier. IsTrue (is_some (f earlier))) places
+all_answered f [] given e = λ k d below. absurd (omega (arith, below))
+all_answered f (p ∷ places) given e =
+    let parts = parts_of (f p) (looked f places) given e in
+    All-cons (λ earlier. IsTrue (is_some (f earlier))) p places (ap is_some parts.2) (all_answered f places parts.1 parts.3)
+
+-- the places before this one have their answers, and it has none in what is then seen
+pub first_missing : {Held : Type 0} (before after : DeskState Held) (places : List ℕ) (k d : ℕ) (given : List LineReply) → k < length places → Looks before after → looked (reply_at before.seen) (take k places) ≡ Some given
+    → None ≡ reply_at after.seen (get_or places k d) → IsFirstMissing (reply_at after.seen) places (get_or places k d)
+first_missing before after places k d given below looks e none = record {
+  front = take k places;
+  rest = drop (k + 1) places;
+  places_are = sym (take-append-drop k places) ∙ ap (λ (rest : List ℕ). take k places ++ rest) (drop_more places k d below);
+  answered = all_answered (reply_at after.seen) (take k places) given (looked_stays (reply_at before.seen) (reply_at after.seen) (λ p a h. reply_stays before after (looks_go_on before after looks) p a h) (take k places) given e);
+  missing = sym none;
+}

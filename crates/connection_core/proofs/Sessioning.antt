@@ -1,5 +1,5 @@
 -- How a session goes on behind a piece and its replies.
-use Rattle.std.proofs.Common.{◌≡◌, ℕ, ◌+◌, ◌≤◌, List, [], ◌++◌, length, Option, Some, None, Result, refl, sym, ap, subst, ◌∙◌, arith}
+use Rattle.std.proofs.Common.{◌≡◌, ℕ, Bool, true, false, IsFalse, ◌+◌, ◌≤◌, List, [], ◌++◌, length, Option, Some, None, Result, refl, sym, ap, subst, ◌∙◌, arith}
 use Rattle.std.specs.Option.{option_map}
 use Rattle.mm_outside.specs.declared.errors.Failed.{Failed}
 use Rattle.mm_outside.specs.Octets.{Octets}
@@ -10,6 +10,7 @@ use Rattle.registry_core.specs.Ledgers.{LedgerView, reply_at}
 use Rattle.registry_core.specs.Desks.{DeskState}
 use Rattle.connection_replies.specs.declared.line_reply.LineReply.{LineReply}
 use Rattle.connection_replies.specs.ReplyLines.{reply_lines}
+use Rattle.connection_core.specs.Asking.{is_refused}
 use Rattle.connection_core.specs.Answers.{replies_to}
 use Rattle.connection_core.specs.declared.asked.Asked.{Asked}
 use Rattle.connection_core.specs.declared.block_reader.Stage.{Stage}
@@ -20,7 +21,7 @@ use Rattle.connection_core.specs.declared.conn_end.Took.{Took}
 use Rattle.connection_core.specs.declared.conn_end.Took.TheVariants as took
 use Rattle.connection_core.specs.Standing.{ReaderState, ReaderStands, end_in}
 use Rattle.connection_core.specs.Taking.{TakesBlock, IsLimit}
-use Rattle.connection_core.specs.Sessions.{SessionState, HasRoomFor, EntersTook, KeepsStash, EndsTaking, due, due_in}
+use Rattle.connection_core.specs.Sessions.{SessionState, HasRoomFor, EntersTook, KeepsStash, EndsTaking, HoldsForBlock, TurnTaken, due, due_in}
 use Rattle.connection_core.specs.Working.{StageAfter, IsReadLimit}
 use Rattle.connection_core.proofs.Askable.{kept_length}
 
@@ -53,6 +54,25 @@ reads_nothing (took.Ended Closed) at old new desk none h = absurd h.1
 reads_nothing (took.Ended (Truncated lines)) at old new desk none h = absurd h.1
 reads_nothing (took.Ended ReadFault) at old new desk none h = absurd h.1
 reads_nothing (took.Ended WriteFault) at old new desk none h = absurd h.1
+
+-- where no block ended, the desk is as it was
+pub reads_no_turn : {Item : Type 0} (result : Took) (new : SessionState Item) (holds : Bool) → ((used : ℕ) → result ≡ took.Block used → ⊥) → TurnTaken result new holds holds
+reads_no_turn took.All new holds none = λ free. free
+reads_no_turn (took.Block used) new holds none = absurd (none used refl)
+reads_no_turn (took.Ended how) new holds none = λ free. free
+
+-- a refused block enters nothing, and so takes no turn
+pub refused_no_turn : {Item : Type 0} (used : ℕ) (new : SessionState Item) (before after : Bool) → (is_refused new.reader.asked ≡ true → after ≡ before) → TurnTaken (took.Block used) new before after
+refused_no_turn used new before after same = λ free refused. same refused ∙ free
+
+-- a refused block has no turn to give back, and any other one gave it back
+pub no_turn_left : {Item : Type 0} (s : SessionState Item) (lines : List Asked) (before after : Bool) → lines ≡ s.reader.asked → (is_refused lines ≡ true → after ≡ before) → (is_refused lines ≡ false → IsFalse after)
+    → HoldsForBlock s before → IsFalse after
+no_turn_left s lines before after same refused good holds = by (is_refused lines) refl
+  where
+    by : (b : Bool) → is_refused lines ≡ b → IsFalse after
+    by true is = refused is ∙ holds (sym (ap is_refused same) ∙ is)
+    by false is = good is
 
 -- a piece that leaves the item as it is, whatever it brought
 pub stash_kept : {Item : Type 0} (result : Took) (old new : SessionState Item) → new.stash ≡ old.stash → KeepsStash result old new

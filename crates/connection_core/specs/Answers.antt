@@ -1,5 +1,5 @@
 -- The octets in which the blocks of a connection are answered.
-use Rattle.std.specs.Prelude.{ℕ, ◌+◌, ◌&&◌, ◌==◌, Bool, true, false, if◌then◌else◌, List, [], ◌∷◌, ◌++◌, length, drop, position, Option, Some, None, unwrap_or}
+use Rattle.std.specs.Prelude.{◌≡◌, ℕ, ◌+◌, ◌&&◌, ◌==◌, Bool, true, false, if◌then◌else◌, List, [], ◌∷◌, ◌++◌, length, drop, position, Option, Some, None, is_some, unwrap_or, All, IsTrue}
 use Rattle.std.specs.Option.{option_map}
 use Rattle.unit_registry.specs.declared.act.Act.{Act as Acts}
 use Rattle.unit_registry.specs.declared.act.Act.TheVariants.{Open, Pause, Left, Lost, Done}
@@ -86,6 +86,14 @@ request_count lines = if is_refused lines then 0 else length lines
 abbrev pub all_requests : ProjectView → List Block → ℕ
 all_requests project [] = 0
 all_requests project (block ∷ blocks) = request_count (asked_of project block) + all_requests project blocks
+
+-- the place is the first of these that has no answer yet
+pub record IsFirstMissing (answer_at : ℕ → Option Answer) (places : List ℕ) (place : ℕ) : Type 0 where
+  pub front : List ℕ
+  pub rest : List ℕ
+  pub places_are : places ≡ front ++ place ∷ rest
+  pub answered : All (λ earlier. IsTrue (is_some (answer_at earlier))) front
+  pub missing : answer_at place ≡ None
 
 -- ---- all blocks
 

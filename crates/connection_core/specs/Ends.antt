@@ -56,7 +56,8 @@ module _ (project : ProjectView) (workers limit : ℕ) (history : List Entry) (c
     pub least : (fewer : ℕ) → fewer < count → (front : List ℕ) × (answers project workers history conn (take fewer all) ≡ Some front) × (length front ≤ length written)
 
   -- The connection entered the first of these blocks, has the answers to them, and had no room for all that the next
-  -- one enters.
+  -- one enters. Where it was lost, the entries before that and the ends still kept free are as many as the history has
+  -- room for.
   pub record Filled (all : List Block) (written : List ℕ) : Type 0 where
     pub before : List Block
     pub block : Block
@@ -86,7 +87,7 @@ module _ (project : ProjectView) (workers limit : ℕ) (history : List Entry) (c
   Ends WriteFault link = Stopped (taken link.read) link.written
   Ends TooLong link = Whole (taken link.read) Lost link.written × (most_octets < length link.read) × (has_long_block (take most_octets link.read) ≡ false)
   Ends BatchTooLong link = Whole (taken link.read) Lost link.written × (has_long_block (take most_octets link.read) ≡ true)
-  Ends (HistoryFull entries kept) link = (filled : Filled (taken link.read) link.written) × (filled.place ≡ entries) × (entries + kept ≡ limit)
+  Ends (HistoryFull entries kept) link = Filled (taken link.read) link.written × (entries + kept ≡ limit)
 
   -- The connection was served so. Where its octets pass a limit it ends by that, unless a fault of a write or a full
   -- history came before.

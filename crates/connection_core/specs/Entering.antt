@@ -1,16 +1,17 @@
 -- How the acts of a block are entered at a desk.
-use Rattle.std.specs.Prelude.{◌≡◌, ◌≢◌, ℕ, ◌-◌, Bool, true, false, if◌then◌else◌, List, [], ◌∷◌, ◌++◌, length, Option, Some, None, Result, Ok, Err, IsTrue, IsFalse, Contains}
+use Rattle.std.specs.Prelude.{◌≡◌, ◌≢◌, ℕ, ◌-◌, Bool, true, false, if◌then◌else◌, List, [], ◌∷◌, ◌++◌, length, Option, Some, None, Result, Ok, Err, IsTrue, IsFalse, All, Contains}
 use Rattle.std.specs.List.{list_any}
 use Rattle.unit_registry.specs.declared.act.Act.{Act as Acts}
 use Rattle.unit_registry.specs.declared.act.Act.TheVariants as act
 use Rattle.unit_registry.specs.Projects.{ProjectView}
 use Rattle.histories.specs.declared.entry.Entry.{Entry}
 use Rattle.histories.specs.Counts.{Asks, effect_of}
+use Rattle.histories.specs.Entries.{has_its_unit}
 use Rattle.histories.specs.Histories.{is_out_of_range}
 use Rattle.registry_core.specs.declared.full.Full.{Full}
 use Rattle.registry_core.specs.Ledgers.{IsFull, is_open_in, entry}
 use Rattle.histories.specs.Answered.{stored_unit}
-use Rattle.registry_core.specs.Desks.{DeskState, Stays, IsSound, Adds, Looks}
+use Rattle.registry_core.specs.Desks.{DeskState, Stays, IsSound, IsEntryOf, Adds, Looks}
 use Rattle.connection_core.specs.declared.asked.Asked.{Asked}
 use Rattle.connection_core.specs.declared.asked.Asked.TheVariants.{Act, Malformed}
 use Rattle.connection_core.specs.declared.entering.Stash.{Stash}
@@ -18,7 +19,7 @@ use Rattle.connection_core.specs.Asking.{reports}
 use Rattle.connection_core.specs.Answers.{acts_of, request_places, is_request}
 
 -- The desk entered these acts of the connection, one after another, and nothing else; others may have entered more
--- between them. The requests among them stand at these places.
+-- between them. The requests among them stand at these places. Each new own place is that of an entry of the connection.
 pub record Enters {Held : Type 0} (conn : ℕ) (asked : List Acts) (requested : List ℕ) (before after : DeskState Held) : Type 0 where
   pub since : List Entry
   pub history : after.seen.entries ≡ before.seen.entries ++ since
@@ -27,6 +28,7 @@ pub record Enters {Held : Type 0} (conn : ℕ) (asked : List Acts) (requested : 
   pub own : List ℕ
   pub places : after.places ≡ before.places ++ own
   pub as_many : length own ≡ length asked
+  pub of_conn : All (IsEntryOf conn after.seen.entries) own
   pub connections : after.connections ≡ before.connections
   pub opened : after.opened ≡ before.opened
   pub dones : after.dones ≡ before.dones
@@ -87,6 +89,7 @@ pub record CanAsk (project : ProjectView) (asked : Acts) : Type 0 where
   pub asks : effect_of asked ≡ Asks
   pub request : is_request asked ≡ true
   pub range : IsFalse (is_out_of_range project asked)
+  pub whole : IsTrue (has_its_unit asked)
   pub plain : stored_unit asked ≡ None
 
 -- the same of a line, which asks nothing where it is malformed

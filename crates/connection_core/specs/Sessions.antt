@@ -1,5 +1,5 @@
 -- What a session keeps, and what its calls come to at a desk and a link.
-use Rattle.std.specs.Prelude.{◌≡◌, ℕ, ◌+◌, ◌≤◌, true, false, List, [], length, Contains, Option, Some, None, Result, Ok, Err, ⊤}
+use Rattle.std.specs.Prelude.{◌≡◌, ℕ, ◌+◌, ◌≤◌, Bool, true, false, IsFalse, List, [], length, Option, Some, None, Result, Ok, Err, ⊤}
 use Rattle.mm_outside.specs.declared.errors.Failed.{Failed}
 use Rattle.mm_outside.specs.Octets.{Octets}
 use Rattle.mm_outside.specs.Sending.{Sends}
@@ -9,7 +9,7 @@ use Rattle.cody_batches.specs.Blocks.{most_lines}
 use Rattle.unit_registry.specs.declared.act.Act.{Act as Acts}
 use Rattle.unit_registry.specs.Projects.{ProjectView}
 use Rattle.registry_core.specs.Ledgers.{LedgerView, reply_at}
-use Rattle.registry_core.specs.Desks.{DeskState}
+use Rattle.registry_core.specs.Desks.{DeskState, TakesNoTurn}
 use Rattle.connection_replies.specs.Rooms.{HoldsLines}
 use Rattle.connection_core.specs.declared.asked.Asked.{Asked}
 use Rattle.connection_core.specs.declared.block_reader.Stage.{Stage}
@@ -22,7 +22,7 @@ use Rattle.connection_core.specs.declared.conn_end.Turn.{Turn}
 use Rattle.connection_core.specs.declared.conn_end.Turn.TheVariants as turn
 use Rattle.connection_core.specs.declared.entering.Stash.{Stash}
 use Rattle.connection_core.specs.Asking.{Block, entered_by, is_refused, stored_for}
-use Rattle.connection_core.specs.Answers.{block_answer}
+use Rattle.connection_core.specs.Answers.{block_answer, IsFirstMissing}
 use Rattle.connection_core.specs.Standing.{ReaderState, ReaderStands, end_in}
 use Rattle.connection_core.specs.Taking.{EndsBlock, IsLimit}
 use Rattle.connection_core.specs.Entering.{Enters, EntersPart, unit_kept, stash_behind}
@@ -44,9 +44,21 @@ module _ {Item : Type 0} where
   abbrev pub ended : SessionState Item → Option ConnEnd
   ended s = end_in s.reader.stage
 
+  -- a block may be begun, or goes on
+  abbrev pub IsReading : SessionState Item → Type 0
+  IsReading s = s.reader.stage ≡ stage.Reading
+
+  -- a block has ended and waits for its replies
+  abbrev pub IsWaiting : SessionState Item → Type 0
+  IsWaiting s = s.reader.stage ≡ stage.Waiting
+
   -- no block waits for its replies
   abbrev pub IsIdle : SessionState Item → Type 0
-  IsIdle s = s.reader.stage ≡ stage.Waiting → ⊥
+  IsIdle s = IsWaiting s → ⊥
+
+  -- no item is kept
+  abbrev pub KeepsNoItem : SessionState Item → Type 0
+  KeepsNoItem s = s.stash ≡ None
 
   -- how many octets the session has taken
   abbrev pub octets_taken : SessionState Item → ℕ
@@ -90,10 +102,21 @@ module _ {Item : Type 0} where
   EntersNothing (took.Ended (HistoryFull entries kept)) new = ⊥
   EntersNothing (took.Ended how) new = ⊤
 
+  -- the desk keeps no turn, unless for a block that isn't refused
+  abbrev pub HoldsForBlock : SessionState Item → Bool → Type 0
+  HoldsForBlock s holds = is_refused (lines_of s) ≡ true → IsFalse holds
+
+  -- Whether the desk keeps its turn behind a piece, where it kept none before: only for a block that waits and isn't
+  -- refused.
+  abbrev pub TurnTaken : Took → SessionState Item → Bool → Bool → Type 0
+  TurnTaken took.All new before after = TakesNoTurn before after
+  TurnTaken (took.Block used) new before after = IsFalse before → HoldsForBlock new after
+  TurnTaken (took.Ended how) new before after = TakesNoTurn before after
+
   -- how the session goes on behind a piece, or to which end it has come, a limit where it is a new one
   abbrev pub EndsTaking : Took → SessionState Item → SessionState Item → Type 0
-  EndsTaking took.All old new = new.reader.stage ≡ stage.Reading
-  EndsTaking (took.Block used) old new = new.reader.stage ≡ stage.Waiting
+  EndsTaking took.All old new = IsReading new
+  EndsTaking (took.Block used) old new = IsWaiting new
   EndsTaking (took.Ended how) old new = (ended new ≡ Some how) × (ended old ≡ None → IsLimit how)
 
   -- the reply octets that are due in a stage
@@ -106,17 +129,17 @@ module _ {Item : Type 0} where
   abbrev pub due : LedgerView → SessionState Item → Option (List ℕ)
   due seen s = due_in s.reader.stage seen s
 
-  -- The replies that were due were written, whole; or one is missing, of a request of the waiting block; or a write
-  -- failed, and a proper prefix of them was written.
+  -- The replies that were due were written, whole; or one is missing, first of the request at this place of the waiting
+  -- block; or a write failed, and a proper prefix of them was written.
   abbrev pub RepliesSo : Turn → LedgerView → SessionState Item → Option Octets → Option Octets → Type 0
   RepliesSo turn.Fed seen s old new = (text : List ℕ) × (due seen s ≡ Some text) × Told (Sends {T = Unit {0}} {E = Failed} (Ok tt) text) old new
-  RepliesSo (turn.Waiting place) seen s old new = Contains s.places place × (reply_at seen place ≡ None)
+  RepliesSo (turn.Waiting place) seen s old new = IsFirstMissing (reply_at seen) s.places place
   RepliesSo (turn.Ended how) seen s old new =
       (how ≡ WriteFault) × ((failed : Failed) × (text : List ℕ) × (due seen s ≡ Some text) × Told (Sends {T = Unit {0}} {E = Failed} (Err failed) text) old new)
 
   -- how the session goes on behind its replies, or to which end it has come
   abbrev pub EndsReplying : Turn → SessionState Item → SessionState Item → Type 0
-  EndsReplying turn.Fed old new = new.reader.stage ≡ stage.Reading
+  EndsReplying turn.Fed old new = IsReading new
   EndsReplying (turn.Waiting place) old new = new ≡ old
   EndsReplying (turn.Ended how) old new = (ended new ≡ Some how) × (ended old ≡ None → how ≡ WriteFault)
 

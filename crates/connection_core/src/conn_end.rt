@@ -43,7 +43,7 @@ pub enum Took {
 pub enum Turn {
     /// All reply lines were written, or none was due.
     Fed,
-    /// The request at this place of the history has no reply yet, and nothing was written.
+    /// The request at this place of the history has no reply yet, the first such of the block, and nothing was written.
     Waiting { place: u32 },
     /// The connection has ended.
     Ended(ConnEnd),

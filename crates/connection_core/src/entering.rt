@@ -12,9 +12,9 @@ use crate::asked::{Asked, is_refused};
 use registry_core::{Desk, Full};
 use unit_registry::Act;
 
-/// An item that is kept for the next report that its unit is compiled.
+/// An item that a session keeps for the next report that its unit is compiled.
 #[derive(Debug, Drop)]
-pub(crate) struct Stash<I> {
+pub struct Stash<I> {
     /// The unit.
     pub unit: u32,
     /// The item.
@@ -200,7 +200,7 @@ where
 }
 
 /// Enters the requests of a block in order and then a Pause, or nothing where some line of it is malformed. It notes
-/// the places of the requests.
+/// the places of the requests. The acts are entered under one turn, which the desk keeps.
 pub(crate) fn enter_block<D: Desk>(
     conn: u32,
     asked: &[Asked],
@@ -231,5 +231,6 @@ where
     if is_refused(asked) {
         return Ok(());
     }
+    desk.hold();
     enter_and_pause(conn, asked, stash, places, desk)
 }

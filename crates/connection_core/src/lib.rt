@@ -24,7 +24,8 @@ mod replying;
 mod session;
 
 pub use conn_end::{ConnEnd, Took, Turn};
-pub use laws::{answers_join, answers_stay};
+pub use entering::Stash;
+pub use laws::{answers_go_on, answers_join, answers_stay, answers_stay_later, served_stays};
 pub use session::Session;
 
 #[cfg(test)]

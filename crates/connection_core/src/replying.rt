@@ -1,12 +1,12 @@
 //! How the lines of a block are answered.
 
-ghost use Rattle.std.specs.Prelude.{◌≡◌, ◌+◌, ◌<◌, ◌≤◌, ◌++◌, List, length, position, vec_len, Contains, IfSome, Some, None, true, false};
+ghost use Rattle.std.specs.Prelude.{◌≡◌, ◌+◌, ◌<◌, ◌≤◌, ◌++◌, List, length, position, vec_len, IfSome, Some, None, true, false, IsFalse};
 ghost use Rattle.std.specs.Vec.{vec_capacity};
 ghost use Rattle.registry_core.specs.Ledgers.{reply_at};
 ghost use Rattle.registry_core.specs.Desks.{Looks, IsSound};
 ghost use Rattle.connection_replies.specs.declared.line_reply.LineReply.{LineReply};
 ghost use Rattle.connection_core.specs.Asking.{is_malformed, is_refused};
-ghost use Rattle.connection_core.specs.Answers.{first_malformed, refusal, refusals, replies_to};
+ghost use Rattle.connection_core.specs.Answers.{IsFirstMissing, first_malformed, refusal, refusals, replies_to};
 ghost use Rattle.connection_core.specs.Replying.{looked};
 
 use crate::asked::{Asked, is_malformed, is_refused};
@@ -60,8 +60,8 @@ fn look_at<D: Desk>(places: &[u32], desk: &mut D, replies: &mut Vec<LineReply>) 
     ensures all { result ≡ None → (given : List LineReply)
         × (looked (reply_at (D.tells desk.new).seen) places.now ≡ Some given)
         × (replies.new.items ≡ replies.old.items ++ given) }
-    ensures missing { IfSome result (λ place. Contains places.now place
-        × (reply_at (D.tells desk.new).seen place ≡ None)) }
+    ensures missing { IfSome result (λ place.
+        IsFirstMissing (reply_at (D.tells desk.new).seen) places.now place) }
     ensures few { length replies.new.items ≤ length replies.old.items + length places.now }
     ensures looked { Looks (D.tells desk.old) (D.tells desk.new) }
     ensures sound { IsSound (D.tells desk.new) }
@@ -76,7 +76,29 @@ fn look_at<D: Desk>(places: &[u32], desk: &mut D, replies: &mut Vec<LineReply>) 
     None
 }
 
-/// Appends how the lines of a block are answered, and answers the first place of a request that has no reply yet.
+/// Looks at the replies to the requests at these places under one turn, which is given back.
+fn look_at_once<D: Desk>(places: &[u32], desk: &mut D, replies: &mut Vec<LineReply>) -> Option<u32>
+    requires sound { IsSound (D.tells desk.old) }
+    requires room { vec_len replies.old + length places.now ≤ vec_capacity replies.old }
+    ensures all { result ≡ None → (given : List LineReply)
+        × (looked (reply_at (D.tells desk.new).seen) places.now ≡ Some given)
+        × (replies.new.items ≡ replies.old.items ++ given) }
+    ensures missing { IfSome result (λ place.
+        IsFirstMissing (reply_at (D.tells desk.new).seen) places.now place) }
+    ensures few { length replies.new.items ≤ length replies.old.items + length places.now }
+    ensures looked { Looks (D.tells desk.old) (D.tells desk.new) }
+    ensures turn { IsFalse (D.holds desk.new) }
+    ensures sound { IsSound (D.tells desk.new) }
+    ensures capacity { vec_capacity replies.new ≡ vec_capacity replies.old }
+{
+    desk.hold();
+    let missing = look_at(places, desk, replies);
+    desk.release();
+    missing
+}
+
+/// Appends how the lines of a block are answered, and answers the first place of a request that has no reply yet. All
+/// replies are looked at under one turn, which is given back.
 pub(crate) fn gather<D: Desk>(
     asked: &[Asked],
     places: &[u32],
@@ -90,11 +112,12 @@ pub(crate) fn gather<D: Desk>(
     ensures all { result ≡ None → (given : List LineReply)
         × (replies_to (reply_at (D.tells desk.new).seen) asked.now places.now ≡ Some given)
         × (replies.new.items ≡ replies.old.items ++ given) }
-    ensures missing { IfSome result (λ place. Contains places.now place
-        × (reply_at (D.tells desk.new).seen place ≡ None)) }
+    ensures missing { IfSome result (λ place.
+        IsFirstMissing (reply_at (D.tells desk.new).seen) places.now place) }
     ensures few { length replies.new.items ≤ length replies.old.items + length asked.now }
     ensures looked { Looks (D.tells desk.old) (D.tells desk.new) }
     ensures refused { is_refused asked.now ≡ true → (desk.new ≡ desk.old) × (result ≡ None) }
+    ensures turn { is_refused asked.now ≡ false → IsFalse (D.holds desk.new) }
     ensures sound { IsSound (D.tells desk.new) }
     ensures capacity { vec_capacity replies.new ≡ vec_capacity replies.old }
 {
@@ -102,5 +125,5 @@ pub(crate) fn gather<D: Desk>(
         refuse_lines(asked, replies);
         return None;
     }
-    look_at(places, desk, replies)
+    look_at_once(places, desk, replies)
 }

@@ -1,6 +1,6 @@
 //! The session of one connection.
 
-ghost use Rattle.std.specs.Prelude.{◌≡◌, ◌≢◌, ◌≤◌, List, ℕ, [], length, IfOk, None, Some, IsTrue, true};
+ghost use Rattle.std.specs.Prelude.{◌≡◌, ◌≢◌, ◌≤◌, List, ℕ, [], length, IfOk, None, Some, IsTrue, IsFalse, true};
 ghost use Rattle.mm_outside.specs.Causes.{HasCause};
 ghost use Rattle.cody_batches.specs.Blocks.{held, most_octets};
 ghost use Rattle.unit_registry.specs.Projects.{ProjectView};
@@ -9,7 +9,7 @@ ghost use Rattle.connection_core.specs.declared.conn_end.ConnEnd.{ConnEnd};
 ghost use Rattle.connection_core.specs.Asking.{is_refused};
 ghost use Rattle.connection_core.specs.Taking.{Takes, CountsTaken, IsEndOfInput, end_holding};
 ghost use Rattle.connection_core.specs.Entering.{Fits, IsServing};
-ghost use Rattle.connection_core.specs.Sessions.{StandsAfter, ended, IsIdle, octets_taken, lines_of, HasRoomFor, EntersTook, EntersNothing, KeepsStash, EndsTaking, RepliesSo, EndsReplying, as_result};
+ghost use Rattle.connection_core.specs.Sessions.{StandsAfter, ended, IsIdle, IsReading, IsWaiting, KeepsNoItem, HoldsForBlock, TurnTaken, octets_taken, lines_of, HasRoomFor, EntersTook, EntersNothing, KeepsStash, EndsTaking, RepliesSo, EndsReplying, as_result};
 
 use crate::block_reader::{BlockReader, Stage};
 use crate::conn_end::{ConnEnd, Took, Turn};
@@ -63,7 +63,8 @@ impl<I> Session<I> {
         ensures stands { IfOk result (λ session. (project : ProjectView) → StandsAfter session project []) }
         ensures going { IfOk result (λ session. ended session ≡ None) }
         ensures idle { IfOk result (λ session. IsIdle session) }
-        ensures stash { IfOk result (λ session. session.stash ≡ None) }
+        ensures reading { IfOk result (λ session. IsReading session) }
+        ensures stash { IfOk result (λ session. KeepsNoItem session) }
         ensures conn { IfOk result (λ session. session.conn ≡ 0) }
     {
         let reader = BlockReader::new(alloc)?;
@@ -87,7 +88,8 @@ impl<I> Session<I> {
         ensures stands { (project : ProjectView) → StandsAfter self.new project [] }
         ensures going { ended self.new ≡ None }
         ensures idle { IsIdle self.new }
-        ensures stash { self.new.stash ≡ None }
+        ensures reading { IsReading self.new }
+        ensures stash { KeepsNoItem self.new }
         ensures conn { self.new.conn ≡ conn }
     {
         self.reader.reset();
@@ -100,7 +102,7 @@ impl<I> Session<I> {
     pub fn stash(&mut self, unit: u32, item: I)
     where
         I: Drop,
-        requires { self.old.stash ≡ None }
+        requires { KeepsNoItem self.old }
         ensures { self.new ≡ record self.old { stash = Some (record { unit = unit; item = item }) } }
     {
         self.stash = Some(Stash { unit, item });
@@ -111,6 +113,8 @@ impl<I> Session<I> {
     /// report of a unit for which an item is kept is entered with the item; else the item stays, unless `HistoryFull`
     /// is answered. After `Block` the rest of the piece is to be taken, when `try_replies` has written the block's
     /// replies.
+    ///
+    /// All acts of a block are entered under one turn of the desk, which it keeps for the block's first `try_replies`.
     ///
     /// # Ends
     ///
@@ -144,6 +148,7 @@ impl<I> Session<I> {
         ensures stash { KeepsStash result self.old self.new }
         ensures end { EndsTaking result self.old self.new }
         ensures serving { ended self.old ≡ None → IsServing self.old.conn (D.tells desk.new) }
+        ensures turn { TurnTaken result self.new (D.holds desk.old) (D.holds desk.new) }
         ensures conn { self.new.conn ≡ self.old.conn }
         ensures fits { Fits (D.fits (D.tells desk.old).held) self.new.stash }
 
@@ -162,6 +167,7 @@ impl<I> Session<I> {
                 match enter_block(self.conn, asked, &mut self.stash, &mut self.places, desk) {
                     Ok(()) => Took::Block { used },
                     Err(Full { entries, reserved }) => {
+                        desk.release();
                         let how = ConnEnd::HistoryFull { entries, reserved };
                         self.reader.end(how);
                         Took::Ended(how)
@@ -172,8 +178,11 @@ impl<I> Session<I> {
         }
     }
 
-    /// Writes the replies of the block that waits for them, in one piece, or answers the place of a request that has no
-    /// reply yet; then nothing is written. Where no block waits nothing is written.
+    /// Writes the replies of the block that waits for them, in one piece, or answers the place of its first request that
+    /// has no reply yet; then nothing is written. Where no block waits nothing is written.
+    ///
+    /// All replies are looked at under one turn of the desk, the one that it keeps for the block or a new one, and the
+    /// turn is given back before anything is written and before `Waiting` is answered.
     ///
     /// # Ends
     ///
@@ -194,6 +203,8 @@ impl<I> Session<I> {
             → (self.new ≡ self.old) × (link.new ≡ link.old) }
         ensures looked { ended self.old ≡ None → Looks (D.tells desk.old) (D.tells desk.new) }
         ensures refused { is_refused (lines_of self.old) ≡ true → desk.new ≡ desk.old }
+        ensures turn { IsWaiting self.old → HoldsForBlock self.old (D.holds desk.old)
+            → IsFalse (D.holds desk.new) }
         ensures idle { IsIdle self.old → ended self.old ≡ None → (result ≡ Turn.Fed)
             × (self.new ≡ self.old) × (desk.new ≡ desk.old) × (link.new ≡ link.old) }
         ensures serving { ended self.old ≡ None → IsServing self.old.conn (D.tells desk.new) }
