@@ -2,11 +2,12 @@
 use Rattle.std.proofs.Common.{◌≡◌, ◌≢◌, ℕ, suc, ◌+◌, ◌<◌, ◌≤◌, Bool, true, false, List, [], ◌∷◌, ◌++◌, length, All, Some, IsTrue, IsFalse, is_none, refl, sym, ap, subst, ◌∙◌, arith, append-nil, append_assoc, length-append, get_or}
 use Rattle.std.specs.Prelude.{slice_get}
 use Rattle.std.proofs.lemmas.List.{get_or_append_left}
+use Rattle.std.proofs.lemmas.List.Elements.{All-push}
 use Rattle.std.proofs.lemmas.Option.{slice_get_within, get_or_from_slice_get}
 use Rattle.unit_registry.specs.Acts.{is_open_act, is_done}
 use Rattle.histories.specs.declared.entry.Entry.{Entry}
 use Rattle.histories.specs.declared.answered.Answered.{Answered}
-use Rattle.histories.specs.Entries.{no_connection}
+use Rattle.histories.specs.Entries.{no_connection, IsTraceEntry}
 use Rattle.histories.specs.Answered.{is_open, opened_count}
 use Rattle.histories.specs.Noted.{Noted, answered_of}
 use Rattle.histories.specs.Histories.{noted_of, answered_in, IsLegal}
@@ -51,12 +52,13 @@ all_front {A} P whole front up all k d lt =
 -- ---- a longer and a shorter history
 
 module _ (opening : LedgerView) where
-  pub ledger_push : (entries : List Entry) (newest : Entry) → IsLedger (with_entries opening entries) → Passes (with_entries opening entries) newest → IsLedger (with_entries opening (entries ++ newest ∷ []))
-  ledger_push entries newest was passes = record { legal = legal_push opening.project opening.workers opening.limit entries newest was.legal (ap (λ o. is_none o) passes); some = was.some; few = was.few; small = was.small }
+  pub ledger_push : (entries : List Entry) (newest : Entry) → IsLedger (with_entries opening entries) → Passes (with_entries opening entries) newest → IsTraceEntry newest → IsLedger (with_entries opening (entries ++ newest ∷ []))
+  ledger_push entries newest was passes written = record { legal = legal_push opening.project opening.workers opening.limit entries newest was.legal (ap (λ o. is_none o) passes); each = All-push IsTraceEntry entries newest was.each written; some = was.some; few = was.few; small = was.small }
 
   pub ledger_front : (whole front : List Entry) → StartsWith whole front → IsLedger (with_entries opening whole) → IsLedger (with_entries opening front)
   ledger_front whole front up all = record {
     legal = legal_prefix opening.project opening.workers opening.limit front up.0 (subst (λ (es : List Entry). IsLegal opening.project opening.workers opening.limit es) up.1 all.legal);
+    each = all_front IsTraceEntry whole front up all.each;
     some = all.some;
     few = all.few;
     small = all.small;

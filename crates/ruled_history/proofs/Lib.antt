@@ -7,6 +7,7 @@ pub mod Recording
 pub mod Seating
 pub mod Closing
 pub mod Turns
+pub mod Serving
 pub mod Joining
 pub mod Telling
 pub mod Worked

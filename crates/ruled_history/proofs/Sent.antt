@@ -38,7 +38,7 @@ module _ (S I H : RattleType) (g : Ghosts S.Denot I.Denot H.Denot) where
   pub board_sync : IsSend S → IsSync (board.the_row S I H g)
   board_sync s =
       let slot = option_send (book.the_row S I H g) (book_send s) in
-      declared_sync (board.the_type S I H g) (table.the_sync (option.the_row (book.the_row S I H g)) view.the_row (about.the_row S I H g) law.the_row global.the_row (rule.ghosts S I H g rule.no_dict) heap.ghosts slot global_send global_sync frees, tt)
+      declared_sync (board.the_type S I H g) (global_sync, (table.the_sync (option.the_row (book.the_row S I H g)) view.the_row (about.the_row S I H g) law.the_row global.the_row (rule.ghosts S I H g rule.no_dict) heap.ghosts slot global_send global_sync frees, tt))
 
   -- and so a registry
   pub registry_sync : IsSend S → IsSync (registry.the_row S I H g)

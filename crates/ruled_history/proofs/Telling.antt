@@ -1,6 +1,6 @@
 -- What a desk tells, by what its seat knows, before and after a turn.
 use Rattle.std.proofs.Common.{◌≡◌, ℕ, ◌-◌, ◌<◌, ◌≤◌, Bool, true, false, ◌||◌, ◌&&◌, List, [], ◌∷◌, ◌++◌, length, All, get_or, Option, Some, None, is_some, refl, sym, ap, ap₂, subst, ◌∙◌, arith, true≢false}
-use Rattle.std.specs.Prelude.{if◌then◌else◌}
+use Rattle.std.specs.Prelude.{if◌then◌else◌, Result, Ok, Err, IfOk}
 use Rattle.std.proofs.Math.Bool.{and-false, or-false, or-true}
 use Rattle.std.proofs.lemmas.Bool.{and_parts}
 use Rattle.std.proofs.lemmas.List.Elements.{Contains-get_or}
@@ -20,6 +20,7 @@ use Rattle.registry_core.specs.Shelves.{ComesWith, kept_after}
 use Rattle.registry_core.specs.Desks.{connections_with, uses, Adds, IsSound}
 use Rattle.registry_core.proofs.Keeping.{said_after}
 use Rattle.ruled_history.specs.declared.board.View.{View}
+use Rattle.ruled_history.specs.declared.board.Stage.{Stage}
 use Rattle.ruled_history.specs.declared.board.Stage.TheVariants.{Idle}
 use Rattle.ruled_history.specs.Runs.{StartsWith, Has, times}
 use Rattle.ruled_history.specs.Views.{with_entries, adds, at_stage, opened_after, dones_after, Knows}
@@ -60,13 +61,31 @@ dones_changes Asks dones = refl
 dones_changes Goes dones = refl
 dones_changes Ends dones = refl
 
--- a desk with another view
-abbrev pub knowing : {S : Type 0} → Seated S → View → Seated S
-knowing desk view = record { opening = desk.opening; metered = desk.metered; seat = record { registry = desk.seat.registry; knows = view } }
+-- a desk with another view, which keeps its turn or not
+abbrev pub knowing : {S : Type 0} → Seated S → Bool → View → Seated S
+knowing desk holds view = record { opening = desk.opening; metered = desk.metered; holds = holds; seat = record { registry = desk.seat.registry; knows = view } }
+
+-- what holds of a seat holds of it at any stage
+pub known_at : (opening : LedgerView) (stage : Stage) (view : View) → Knows opening view → Knows opening (at_stage stage view)
+known_at opening stage view knows = record {
+  ledger = knows.ledger;
+  heard = knows.heard;
+  places_once = knows.places_once;
+  early = knows.early;
+  connections_once = knows.connections_once;
+  own_places = knows.own_places;
+  own_connections = knows.own_connections;
+  opened_is = knows.opened_is;
+  dones_is = knows.dones_is;
+  enough = knows.enough;
+  of_nobody = knows.of_nobody;
+  numbered = knows.numbered;
+  bare = knows.bare;
+}
 
 module _ {S Item Held : Type 0} (kept : S → ℕ → Option Item) (held : S → Held) (desk : Seated S) (served : View) (serving : IsServing desk.seat.knows served) (more : StartsWith served.seen desk.seat.knows.seen) where
-  pub turn_adds : (newest : Entry) (place : ℕ) → place ≡ length served.seen → goes (effect_of newest.act) ≤ served.opened → Adds (told_seated kept held desk) newest place (told_seated kept held (knowing desk (at_stage Idle (adds newest served))))
-  turn_adds newest place is some_open =
+  pub turn_adds : (holds : Bool) (newest : Entry) (place : ℕ) → place ≡ length served.seen → goes (effect_of newest.act) ≤ served.opened → Adds (told_seated kept held desk) newest place (told_seated kept held (knowing desk holds (at_stage Idle (adds newest served))))
+  turn_adds holds newest place is some_open =
       let opened : served.opened ≡ desk.seat.knows.opened = ap (λ (v : View). v.opened) serving.1 in
       let dones : served.dones ≡ desk.seat.knows.dones = ap (λ (v : View). v.dones) serving.1 in
       record {
@@ -139,10 +158,15 @@ stands_first kept held book empty = record {
 -- ---- the same, where a desk's view changed by a turn
 
 module _ {S Item Held : Type 0} (kept : S → ℕ → Option Item) (held : S → Held) (before after : Seated S) (served : View) (serving : IsServing before.seat.knows served) (more : StartsWith served.seen before.seat.knows.seen) where
-  pub told_adds : (newest : Entry) (place : ℕ) → place ≡ length served.seen → goes (effect_of newest.act) ≤ served.opened → after ≡ knowing before (at_stage Idle (adds newest served)) → Adds (told_seated kept held before) newest place (told_seated kept held after)
-  told_adds newest place is some_open now = subst (λ (d : Seated S). Adds (told_seated kept held before) newest place (told_seated kept held d)) (sym now) (turn_adds kept held before served serving more newest place is some_open)
+  pub told_adds : (holds : Bool) (newest : Entry) (place : ℕ) → place ≡ length served.seen → goes (effect_of newest.act) ≤ served.opened → after ≡ knowing before holds (at_stage Idle (adds newest served)) → Adds (told_seated kept held before) newest place (told_seated kept held after)
+  told_adds holds newest place is some_open now = subst (λ (d : Seated S). Adds (told_seated kept held before) newest place (told_seated kept held d)) (sym now) (turn_adds kept held before served serving more holds newest place is some_open)
 
 -- a connection goes with its act
 pub leaving_goes : (how : Leaving) → effect_of (leaving how) ≡ Goes
 leaving_goes AsLeft = refl
 leaving_goes AsLost = refl
+
+-- what follows of a result that is Ok
+pub if_ok : {A E : Type 0} (P Q : A → Type 0) (result : Result A E) → IfOk result P → ((a : A) → P a → Q a) → IfOk result Q
+if_ok P Q (Ok a) h f = f a h
+if_ok P Q (Err e) h f = tt

@@ -93,7 +93,7 @@ module _ {B : Type 0} (Stands : B → List Entry → Type 0) (metered : Bool) (o
       one_turn r.served t (2 ^ 64) h.0 (omega (arith, h.1)) (sym (ap (λ ws. get_or ws 1 0) r.words) ∙ found)
 
   -- what a seat whose view is w may be told, in a table that has it
-  at_turn : (s : State (Option B) View) (r : Rule s) (id : ℕ) (v w : View) (b : B) → get_elem? s.views id ≡ some v → w.opened ≡ v.opened → w.dones ≡ v.dones → w.share ≡ v.share → w.room ≡ v.room → w.seen ≡ r.entries → Knows opening w → w.connections ≡ v.connections → Stands b r.entries
+  pub at_turn : (s : State (Option B) View) (r : Rule s) (id : ℕ) (v w : View) (b : B) → get_elem? s.views id ≡ some v → w.opened ≡ v.opened → w.dones ≡ v.dones → w.share ≡ v.share → w.room ≡ v.room → w.seen ≡ r.entries → Knows opening w → w.connections ≡ v.connections → Stands b r.entries
       → AtTurn Stands opening b v.seen w
   at_turn s r id v w b at opened dones share room seen knows connections stands =
       let most : (j : ℕ) (u : View) → get_elem? s.views j ≡ some u → taken_of u ≤ share_of u = λ j u at_u. (r.each_seat j u at_u).enough in
@@ -158,14 +158,13 @@ module _ {B : Type 0} (Stands : B → List Entry → Type 0) (metered : Bool) (o
   pub learns : (slots id : ℕ) (m : Me (Option B) View) (Learns : View → Type 0) → (Knows opening m.0 → Learns m.0) → Allows Rule slots id m 0 (λ k. k) (learnt Learns (step slots 0 0 0 none) m)
   learns slots id m Learns tells s r sized at fits = (m.0, keeps, tt, unmoved s r id m.0 0 at, (refl, tells (known opening r.entries r.makers r.owner r.belongs id m.0 (r.each_seat id m.0 at) r.ledger r.of_nobody)))
 
-  pub passes : (slots id t : ℕ) (v : View) (b : B) → v.stage ≡ Serves t → Stands b v.seen → Allows Rule slots id (v, (0, Some b) ∷ []) 1 (λ k. (k + 1) % 2 ^ 64) (passed (Knows opening) (step slots 1 1 0 none) (v, (0, Some b) ∷ []))
+  pub passes : (slots id t : ℕ) (v : View) (b : B) → v.stage ≡ Serves t → Stands b v.seen → Allows Rule slots id (v, (0, Some b) ∷ []) 1 (λ k. (k + 1) % 2 ^ 64) (passed (step slots 1 1 0 none) (v, (0, Some b) ∷ []))
   passes slots id t v b serves stands s r sized at fits =
       let ok = r.each_seat id v at in
       let turn : HasTurn r.entries (s.homes ≡ none ∷ []) r.drawn r.served r.holder id v.seen (Serves t) = subst (HasTurn r.entries (s.homes ≡ none ∷ []) r.drawn r.served r.holder id v.seen) serves ok.turn in
       let w : View = at_stage Idle v in
       let had : tickets v ≡ 1 = ap tickets_at serves in
       let one : 1 ≤ v.share = subst (λ (z : ℕ). z ≤ v.share) had ok.one_ticket in
-      let new : SeatFits opening r.entries r.makers (s.homes ≡ none ∷ []) r.drawn r.served r.holder r.owner r.belongs id w = restaged opening r.entries r.makers r.owner r.belongs id v Idle ok tt (omega arith) (λ z. absurd (omega arith)) in
       let mine : r.holder r.served ≡ id = ap r.holder (sym turn.0) ∙ turn.2 in (
         w,
         gives,
@@ -195,5 +194,5 @@ module _ {B : Type 0} (Stands : B → List Entry → Type 0) (metered : Bool) (o
               (λ j u ne o. restaged_other s r j u o (turn_passed r.entries (s.homes ≡ none ∷ []) _ r.drawn r.served r.holder id j u.seen mine ne u.stage o.turn))
               r.each_seat;
         },
-        (refl, known opening r.entries r.makers r.owner r.belongs id w new r.ledger r.of_nobody),
+        refl,
       )

@@ -1,17 +1,17 @@
 -- What a turn tells, put together from its steps.
-use Rattle.std.proofs.Common.{◌≡◌, Bool, ℕ, ◌+◌, ◌%◌, ◌^◌, ◌<◌, length, ◌∷◌, ◌++◌, List, [], Some, None, refl, sym, ap, subst, ◌∙◌}
+use Rattle.std.proofs.Common.{◌≡◌, Bool, ℕ, ◌+◌, ◌%◌, ◌^◌, ◌<◌, length, ◌∷◌, ◌++◌, List, [], Some, refl, sym, ap, subst, ◌∙◌}
 use Rattle.std.specs.Prelude.{Option}
 use mathlib.Core.Option.{some, none, some-injective}
 use lib.ListN.{get_elem?}
-use Rattle.atomic_table.specs.Table.{State, Me, step, rest, Allows, Final, Seen}
+use Rattle.atomic_table.specs.Table.{State, Me, step, Allows, Final, Seen}
 use Rattle.histories.specs.declared.entry.Entry.{Entry}
-use Rattle.registry_core.specs.Ledgers.{LedgerView, Passes, open_in, done_in}
+use Rattle.registry_core.specs.Ledgers.{LedgerView, open_in, done_in}
 use Rattle.ruled_history.specs.declared.board.View.{View}
 use Rattle.ruled_history.specs.declared.board.Stage.TheVariants.{Idle, Waits, Serves}
 use Rattle.ruled_history.specs.Runs.{StartsWith, AreAllPlaces}
 use Rattle.ruled_history.specs.Rule.{Ruled}
-use Rattle.ruled_history.specs.Steps.{AtTurn, drew, Served, looked, recorded, passed}
-use Rattle.ruled_history.specs.Views.{with_entries, opened_of, dones_of, sees, at_stage, Knows, MayAdd}
+use Rattle.ruled_history.specs.Steps.{AtTurn, InTurn, IsEntering, drew, Served, looked, recorded, passed}
+use Rattle.ruled_history.specs.Views.{with_entries, opened_of, dones_of, sees, at_stage, Knows}
 use Rattle.ruled_history.specs.Seats.{IsServing}
 use Rattle.ruled_history.proofs.Turning.{Rule, draws, looks, passes}
 use Rattle.ruled_history.proofs.Recording.{records}
@@ -29,46 +29,50 @@ module _ {B : Type 0} (Stands : B → List Entry → Type 0) (metered : Bool) (o
   looks_at slots id t m Tells tells waits s r sized at fits = let did = looks Stands metered opening slots id t m.0 m.1 waits s r sized at fits in
       (did.0, did.1, did.2, did.3, λ t' e. (λ turn. let h = (did.4 t' e).0 turn in (h.0, h.1, h.2, h.3, tells h.0 m.0.seen did.0 h.4), λ other. (did.4 t' e).1 other))
 
-  pub passes_at : (slots id t : ℕ) (m : Me (Option B) View) (b : B) (Learns : View → Type 0) → ((v : View) → Knows opening v → Learns v) → m.0.stage ≡ Serves t → m.1 ≡ (0, Some b) ∷ [] → Stands b m.0.seen
-      → Allows (Rule Stands metered opening) slots id m 1 (λ k. (k + 1) % 2 ^ 64) (passed Learns (step slots 1 1 0 none) m)
-  passes_at slots id t m b Learns tells serves hand stands = subst (λ (c : List (ℕ × Option B)). Allows (Rule Stands metered opening) slots id (m.0, c) 1 (λ k. (k + 1) % 2 ^ 64) (passed Learns (step slots 1 1 0 none) (m.0, c))) (sym hand)
-      (λ s r sized at fits. let did = passes Stands metered opening slots id t m.0 b serves stands s r sized at fits in (did.0, did.1, did.2, did.3, (did.4.0, tells did.0 did.4.1)))
+  pub passes_at : (slots id : ℕ) (m : Me (Option B) View) → InTurn Stands opening m → Allows (Rule Stands metered opening) slots id m 1 (λ k. (k + 1) % 2 ^ 64) (passed (step slots 1 1 0 none) m)
+  passes_at slots id m turn = subst (λ (c : List (ℕ × Option B)). Allows (Rule Stands metered opening) slots id (m.0, c) 1 (λ k. (k + 1) % 2 ^ 64) (passed (step slots 1 1 0 none) (m.0, c))) (sym turn.hand)
+      (passes Stands metered opening slots id turn.ticket m.0 turn.book turn.serves turn.told.stands)
 
-  pub records_at : (entries_of : B → List Entry) (slots id t : ℕ) (m : Me (Option B) View) (b : B) (e : Entry) → m.0.stage ≡ Serves t → m.1 ≡ (0, Some b) ∷ [] → 0 < m.0.share → MayAdd metered m.0 e → entries_of b ≡ m.0.seen ++ e ∷ []
-      → Passes (with_entries opening m.0.seen) e → Allows (Rule Stands metered opening) slots id m 2 (λ k. (k + 1) % 2 ^ 64) (recorded entries_of (step slots 2 1 0 none) m)
-  records_at entries_of slots id t m b e serves hand share may ended passing = subst (λ (c : List (ℕ × Option B)). Allows (Rule Stands metered opening) slots id (m.0, c) 2 (λ k. (k + 1) % 2 ^ 64) (recorded entries_of (step slots 2 1 0 none) (m.0, c))) (sym hand)
-      (records Stands metered opening entries_of slots id t m.0 b e serves share may ended passing)
+  pub records_at : (entries_of : B → List Entry) (slots id : ℕ) (m : Me (Option B) View) (e : Entry) (Tells : B → List Entry → View → Type 0) → ((b : B) (before : List Entry) (v : View) → AtTurn Stands opening b before v → Tells b before v) → ((b : B) (es : List Entry) → Stands b es → entries_of b ≡ es)
+      → (entering : IsEntering Stands metered opening e m) → 0 < m.0.share → Allows (Rule Stands metered opening) slots id m 2 (λ k. (k + 1) % 2 ^ 64) (recorded entries_of Tells (step slots 2 1 0 none) m)
+  records_at entries_of slots id m e Tells tells ended entering share = subst (λ (c : List (ℕ × Option B)). Allows (Rule Stands metered opening) slots id (m.0, c) 2 (λ k. (k + 1) % 2 ^ 64) (recorded entries_of Tells (step slots 2 1 0 none) (m.0, c))) (sym entering.hand)
+      (λ s r sized at fits.
+      let b : B = entering.book in
+      let did = records Stands metered opening entries_of slots id entering.ticket m.0 b e entering.serves share entering.may (ended b (m.0.seen ++ e ∷ []) entering.stands) entering.stands entering.passes entering.is_entry s r sized at fits in
+      (did.0, did.1, did.2, did.3, λ b' e' in_hand ends. let h = did.4 b' e' in_hand ends in (h.0, tells b' did.0.seen did.0 h.1)))
 
 -- ---- the book in hand
 
 module _ {B : Type 0} where
-  abbrev first_value : List (ℕ × Option B) → Option B
-  first_value [] = None
-  first_value (x ∷ xs) = x.1
-
-  -- the book was taken into the hand, and out of it
-  pub record Taken (Tells : B → List Entry → View → Type 0) (v : View) (m : Me (Option B) View) (x : Option B) : Type 0 where
+  -- the turn has come, with the book in hand
+  pub record Came (Tells : B → List Entry → View → Type 0) (v : View) (m : Me (Option B) View) : Type 0 where
     pub book : B
-    pub is : x ≡ Some book
     pub serving : IsServing v m.0
-    pub hand : m.1 ≡ (0, None) ∷ []
+    pub hand : m.1 ≡ (0, Some book) ∷ []
     pub seen : StartsWith m.0.seen v.seen
     pub told : Tells book v.seen m.0
 
-  pub taken : (Tells : B → List Entry → View → Type 0) (v : View) (t : ℕ) (m m' m'' : Me (Option B) View) (x : Option B) → m.0 ≡ at_stage (Waits t) v → m.1 ≡ [] → Served Tells t m m' → m'.1 ≡ (0, x) ∷ rest m'.1
-      → m'' ≡ (m'.0, (0, None) ∷ rest m'.1) → Taken Tells v m'' x
-  taken Tells v t m m' m'' x waits empty h found now =
-      let hand : m'.1 ≡ (0, Some h.0) ∷ [] = ap (λ n. n.1) h.2 ∙ ap (λ z. (0, Some h.0) ∷ z) empty in
-      let view : m''.0 ≡ sees h.1 (at_stage (Serves t) v) = ap (λ n. n.0) now ∙ (ap (λ n. n.0) h.2 ∙ ap (λ w. sees h.1 (at_stage (Serves t) w)) waits) in
-      let seen : m''.0.seen ≡ h.1 = ap (λ (w : View). w.seen) view in
+  pub came : (Tells : B → List Entry → View → Type 0) (v : View) (t : ℕ) (m m' : Me (Option B) View) → m.0 ≡ at_stage (Waits t) v → m.1 ≡ [] → Served Tells t m m' → Came Tells v m'
+  came Tells v t m m' waits empty h =
+      let view : m'.0 ≡ sees h.1 (at_stage (Serves t) v) = ap (λ n. n.0) h.2 ∙ ap (λ w. sees h.1 (at_stage (Serves t) w)) waits in
+      let seen : m'.0.seen ≡ h.1 = ap (λ (w : View). w.seen) view in
       record {
         book = h.0;
-        is = ap first_value (sym found ∙ hand);
         serving = (t, view ∙ ap (λ l. sees l (at_stage (Serves t) v)) (sym seen));
-        hand = ap (λ n. n.1) now ∙ ap (λ z. (0, None) ∷ rest z) hand;
+        hand = ap (λ n. n.1) h.2 ∙ ap (λ z. (0, Some h.0) ∷ z) empty;
         seen = (h.3.0, seen ∙ (h.3.1 ∙ ap (λ (w : View). w.seen ++ h.3.0) waits));
-        told = subst (λ (x : List Entry × View). Tells h.0 x.0 x.1) (λ i. (ap (λ (w : View). w.seen) waits i, sym (ap (λ n. n.0) now) i)) h.4;
+        told = subst (λ (es : List Entry). Tells h.0 es m'.0) (ap (λ (w : View). w.seen) waits) h.4;
       }
+
+  -- whoever is served has its turn
+  pub in_turn : (Stands : B → List Entry → Type 0) (opening : LedgerView) (b : B) (before : List Entry) (t : ℕ) (m : Me (Option B) View) → m.0.stage ≡ Serves t → m.1 ≡ (0, Some b) ∷ [] → AtTurn Stands opening b before m.0 → InTurn Stands opening m
+  in_turn Stands opening b before t m serves hand told = record {
+    ticket = t;
+    book = b;
+    serves = serves;
+    hand = hand;
+    told = record { stands = told.stands; knows = told.knows; still = λ conn has. refl; free_worker = told.free_worker; room = told.room };
+  }
 
 -- what the close tells
 pub record Ended {B : Type 0} (Stands : B → List Entry → Type 0) (opening : LedgerView) (v : View) (x : Option B) : Type 0 where

@@ -4,12 +4,14 @@ use Rattle.atomic_table.specs.Seated.{TableId}
 use Rattle.atomic_table.specs.declared.shared.Seat.{Seat as Chair}
 use Rattle.histories.specs.declared.entry.Entry.{Entry}
 use Rattle.histories.specs.Answered.{is_stored}
-use Rattle.registry_core.specs.Ledgers.{said_in}
+use Rattle.registry_core.specs.Ledgers.{LedgerView, said_in, is_open_in}
 use Rattle.registry_core.specs.Books.{BookView}
 use Rattle.registry_core.specs.Desks.{DeskState}
 use Rattle.ruled_history.specs.declared.board.Stage.TheVariants.{Serves}
 use Rattle.ruled_history.specs.declared.board.View.{View}
+use Rattle.ruled_history.specs.Runs.{Has}
 use Rattle.ruled_history.specs.Views.{with_entries, sees, at_stage, spent}
+use Rattle.ruled_history.specs.Steps.{InHand, InTurn, TurnIs}
 
 -- The book is the opening's, and stands after these entries: its project, its workers, its limit and what its shelf
 -- holds besides its items are the opening's, and its shelf keeps the units that the opening's keeps and those that are
@@ -18,6 +20,10 @@ pub record StandsAfter {S Item Held : Type 0} (kept : S → ℕ → Option Item)
   pub is_ledger : book.ledger ≡ with_entries opening.ledger entries
   pub is_held : held book.shelf ≡ held opening.shelf
   pub is_kept : (unit : ℕ) → is_some (kept book.shelf unit) ≡ (is_some (kept opening.shelf unit) || is_stored (said_in book.ledger) unit)
+
+-- whether an item of the unit is kept after these entries: the opening has it, or it is stored in them
+abbrev pub is_kept_after : {S Item : Type 0} → (S → ℕ → Option Item) → BookView S → List Entry → ℕ → Bool
+is_kept_after kept opening entries unit = is_some (kept opening.shelf unit) || is_stored (said_in (with_entries opening.ledger entries)) unit
 
 -- a registry: which one it is, the book that it was made of, and whether each seat has a room of its own
 pub record Shared (S : Type 0) : Type 0 where
@@ -30,10 +36,12 @@ pub record Sitting : Type 0 where
   pub registry : TableId
   pub knows : View
 
--- a desk: the book that its registry was made of, whether each seat has a room of its own, and its seat
+-- a desk: the book that its registry was made of, whether each seat has a room of its own, whether it keeps its turn,
+-- and its seat as it is once the turn is passed
 pub record Seated (S : Type 0) : Type 0 where
   pub opening : BookView S
   pub metered : Bool
+  pub holds : Bool
   pub seat : Sitting
 
 -- the room of the first seat: all entries but the ends of the workers, where each seat has a room of its own
@@ -52,6 +60,18 @@ IsSame before after = (after.table_id ≡ before.table_id) × (after.id ≡ befo
 -- the seat is served, and may have seen more
 abbrev pub IsServing : View → View → Type 0
 IsServing before after = (ticket : ℕ) × (after ≡ sees after.seen (at_stage (Serves ticket) before))
+
+-- the seat is served, with a book in hand that is the opening's
+abbrev pub IsServed : {S Item Held : Type 0} → (S → ℕ → Option Item) → (S → Held) → BookView S → InHand (BookView S) → Type 0
+IsServed kept held opening me = InTurn (StandsAfter kept held opening) opening.ledger me
+
+-- the seat is served, with a book in hand that is the opening's, or is out, as the first says
+abbrev pub IsServedIf : {S Item Held : Type 0} → Bool → (S → ℕ → Option Item) → (S → Held) → BookView S → InHand (BookView S) → Type 0
+IsServedIf serving kept held opening me = TurnIs serving (StandsAfter kept held opening) opening.ledger me
+
+-- the own connections of a seat are open after this history where they are after the other
+abbrev pub StillOpen : LedgerView → List ℕ → List Entry → List Entry → Type 0
+StillOpen opening connections before after = (conn : ℕ) → Has conn connections → is_open_in (with_entries opening after) conn ≡ is_open_in (with_entries opening before) conn
 
 -- a registry's name as numbers
 abbrev pub name_of : TableId → List ℕ

@@ -66,9 +66,10 @@ impl<S: Shelf> TableRule<Option<Book<S>>, View, About<S>> for Law {
     ghost first = { λ key. first_view key.opening.value.ledger.workers (first_room key.metered key.opening.value) };
 }
 
-/// The table, of three words and a slot.
+/// The table, of three words and a slot, and the allocator for copies of items.
 #[derive(Drop)]
 pub(crate) struct Board<S: Shelf> {
+    pub(crate) alloc: Global,
     pub(crate) table: Table<Option<Book<S>>, View, About<S>, Law, Global>,
     ghost sized: { (table.shared.table_id.words ≡ 3) × (table.shared.table_id.slots ≡ 1) },
     ghost some_worker: { 0 < table.shared.key.opening.value.ledger.workers },
@@ -76,7 +77,7 @@ pub(crate) struct Board<S: Shelf> {
 
 pub(crate) type Place<S> = atomic_table::Seat<Option<Book<S>>, View>;
 
-/// What a turn tells of the book in hand and of the seat. Each turn picks it.
+/// What a step tells of the book in hand and of the seat whose turn it is. Each such step picks it.
 pub(crate) trait Telling<S> {
     ghost use Rattle.ruled_history.specs.declared.board.View.{View};
 
@@ -130,23 +131,23 @@ impl<S: Shelf, J: Telling<S>> Play<Option<Book<S>>, View> for Look<J> {
 }
 
 /// A step that records the last entry of the book in hand.
-pub(crate) struct Record;
+pub(crate) struct Record<J> {
+    telling: PhantomData<J>,
+}
 
-impl<S: Shelf> Play<Option<Book<S>>, View> for Record {
+impl<S: Shelf, J: Telling<S>> Play<Option<Book<S>>, View> for Record<J> {
     ghost use Rattle.ruled_history.specs.Steps.{recorded};
 
-    ghost then = { recorded (λ book. book.ledger.entries) };
+    ghost then = { recorded (λ book. book.ledger.entries) J.tells };
 }
 
 /// A step that passes the turn, with the slot.
-pub(crate) struct Pass<J> {
-    learning: PhantomData<J>,
-}
+pub(crate) struct Pass;
 
-impl<S: Shelf, J: Learning> Play<Option<Book<S>>, View> for Pass<J> {
+impl<S: Shelf> Play<Option<Book<S>>, View> for Pass {
     ghost use Rattle.ruled_history.specs.Steps.{passed};
 
-    ghost then = { passed J.learns };
+    ghost then = { passed };
 }
 
 /// How many worker numbers are cut off, and which room goes with them. Each split picks it.

@@ -4,6 +4,7 @@
 ghost use Rattle.std.specs.Prelude.{◌≡◌, ◌≤◌, ◌<◌, None, IfSome, IsTrue, IsFalse};
 ghost use Rattle.unit_registry.specs.Projects.{unit_count};
 ghost use Rattle.histories.specs.Answered.{stored_unit};
+ghost use Rattle.histories.specs.Entries.{has_its_unit};
 ghost use Rattle.histories.specs.Histories.{is_out_of_range};
 ghost use Rattle.histories.specs.Counts.{Asks, effect_of};
 ghost use Rattle.ruled_history.specs.Examples.{four_units, blank, IsFresh, HasOpen, Opened, Entered, Greeted, Divided};
@@ -93,6 +94,7 @@ pub(crate) fn enters_at<D: Desk<Item = ()>>(
     requires has_open { HasOpen conn (D.tells desk.old) }
     requires act { effect_of act ≡ Asks }
     requires unit { IsFalse (is_out_of_range (D.tells desk.old).seen.project act) }
+    requires whole { IsTrue (has_its_unit act) }
     requires bare { stored_unit act ≡ None }
     ensures told { IfSome result (λ told. told ≡ place) }
     ensures entered { IfSome result (λ told. Entered conn act place (D.tells desk.old) (D.tells desk.new)) }
@@ -111,6 +113,7 @@ pub(crate) fn enters<D: Desk<Item = ()>>(desk: &mut D, conn: u32, act: Act, plac
     requires has_open { HasOpen conn (D.tells desk.old) }
     requires act { effect_of act ≡ Asks }
     requires unit { IsFalse (is_out_of_range (D.tells desk.old).seen.project act) }
+    requires whole { IsTrue (has_its_unit act) }
     requires bare { stored_unit act ≡ None }
     ensures { IsTrue result → Entered conn act place (D.tells desk.old) (D.tells desk.new) }
 {

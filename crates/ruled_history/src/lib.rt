@@ -4,6 +4,7 @@
 mod bell;
 mod board;
 mod registry;
+mod served;
 mod shared;
 mod turn;
 
@@ -14,6 +15,8 @@ pub use shared::SharedDesk;
 
 #[cfg(test)]
 mod examples;
+#[cfg(test)]
+mod holding;
 #[cfg(test)]
 mod ringing;
 #[cfg(test)]

@@ -74,7 +74,7 @@ impl<S: Shelf + Drop> Registry<S> {
         let seat = Seat {
             badge: place.into_badge(),
         };
-        let board = Board { table };
+        let board = Board { alloc, table };
         Ok((Registry { board }, seat))
     }
 
@@ -146,7 +146,7 @@ impl<S: Shelf + Drop> Registry<S> {
     {
         let Seat { badge } = seat;
         let Registry { board } = self;
-        let Board { table } = board;
+        let Board { alloc: _, table } = board;
         let mut closed = table.close_with(badge.into_seat());
         let slot = closed.take(0);
         closed.free();

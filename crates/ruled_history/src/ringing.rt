@@ -1,8 +1,8 @@
-//! What tests show of a desk and its bell beside the clauses: which calls ring the bell, that a wait ends with a ring
-//! and not before, which items are fetched, and that a look sees what others entered.
+//! What tests show of a desk and its bell beside the clauses: which entries ring the bell, that a wait ends with a ring
+//! and not before, which items are fetched, and that a look sees what others entered and never waits for a reply.
 
-ghost use Rattle.std.specs.Prelude.{◌≡◌};
-ghost use Rattle.ruled_history.specs.Examples.{IsFresh, four_units};
+ghost use Rattle.std.specs.Prelude.{◌≡◌, IsTrue};
+ghost use Rattle.ruled_history.specs.Examples.{HasOpen, IsFresh, four_units};
 
 use crate::bell::Bell;
 use crate::examples::{divided, enters, greets, opens};
@@ -15,7 +15,7 @@ use unit_registry::Act;
 
 /// Whether connection 0 was opened, greeted at place 1 and left, the greeting has its reply, and nothing is kept for
 /// unit 0.
-fn visits<D: Desk<Item = ()>>(alloc: Global, desk: &mut D) -> bool
+fn visits<D: Desk<Item = ()>>(desk: &mut D) -> bool
     requires fresh { IsFresh (D.tells desk.old) }
     requires project { (D.tells desk.old).seen.project ≡ four_units }
 {
@@ -30,20 +30,20 @@ fn visits<D: Desk<Item = ()>>(alloc: Global, desk: &mut D) -> bool
         return false;
     }
     desk.leave(0, Leaving::Left);
-    let kept = desk.fetch(alloc, 0);
+    let kept = desk.fetch(0);
     desk.look(1) == Some(Answer::Hello) && kept == Ok(None)
 }
 
-/// How often the bell was rung, after one seat made three entries and looked and fetched, and the other made one.
+/// How often the bell was rung, after one seat made three entries and looked and fetched, and the other made one, none
+/// of which answers an import that waits.
 pub(crate) fn rings<R: Wait>(rt: &R, alloc: Global) -> Option<u64> {
     let (registry, one, two) = divided(alloc, 40)?;
     let bell = Bell::new();
     let mut desk = SharedDesk::new(rt, &registry, one, &bell);
-    if !visits(alloc, &mut desk) {
+    if !visits(&mut desk) {
         return None;
     }
     SharedDesk::new(rt, &registry, two, &bell).done();
-    bell.wait_past(rt, 0);
     Some(bell.count(rt))
 }
 
@@ -74,7 +74,7 @@ pub(crate) fn wakes<R: Threads + Wait + Sync>(rt: &R) -> u64 {
 }
 
 /// Whether an item that is stored for unit 0 is fetched then, and none for unit 1.
-fn keeps<D: Desk<Item = ()>>(alloc: Global, desk: &mut D) -> bool
+fn keeps<D: Desk<Item = ()>>(desk: &mut D) -> bool
     requires fresh { IsFresh (D.tells desk.old) }
     requires project { (D.tells desk.old).seen.project ≡ four_units }
     requires fits { (held : D.Held) → D.fits held 0 tt }
@@ -92,16 +92,16 @@ fn keeps<D: Desk<Item = ()>>(alloc: Global, desk: &mut D) -> bool
     if desk.ask(0, stored, Some(())) != Ok(3) {
         return false;
     }
-    let kept = desk.fetch(alloc, 0);
-    let other = desk.fetch(alloc, 1);
+    let kept = desk.fetch(0);
+    let other = desk.fetch(1);
     kept == Ok(Some(())) && other == Ok(None)
 }
 
 /// Whether an item is fetched for unit 0.
-fn finds<D: Desk<Item = ()>>(alloc: Global, desk: &mut D) -> bool
+fn finds<D: Desk<Item = ()>>(desk: &mut D) -> bool
     requires project { (D.tells desk.old).seen.project ≡ four_units }
 {
-    desk.fetch(alloc, 0) == Ok(Some(()))
+    desk.fetch(0) == Ok(Some(()))
 }
 
 /// Whether the first seat keeps an item and fetches it, and then the second fetches it too.
@@ -112,10 +112,10 @@ pub(crate) fn fetches<R: Wait>(rt: &R, alloc: Global) -> bool {
     let bell = Bell::new();
     let mut first = SharedDesk::new(rt, &registry, one, &bell);
     let mut second = SharedDesk::new(rt, &registry, two, &bell);
-    if !keeps(alloc, &mut first) {
+    if !keeps(&mut first) {
         return false;
     }
-    finds(alloc, &mut second)
+    finds(&mut second)
 }
 
 /// Whether connection 0, a guest, imported unit 0 at place 2, and waits for the reply.
@@ -136,10 +136,36 @@ fn awaits<D: Desk<Item = ()>>(desk: &mut D) -> bool
     desk.look(2) == None
 }
 
+/// Whether looks answer that there is no reply: at an import whose unit nobody compiles, and at an Open. No look waits for
+/// one, in a turn that is kept neither.
+fn looks_in_vain<D: Desk<Item = ()>>(desk: &mut D) -> bool
+    requires fresh { IsFresh (D.tells desk.old) }
+    requires project { (D.tells desk.old).seen.project ≡ four_units }
+{
+    if !awaits(desk) {
+        return false;
+    }
+    desk.hold();
+    let imported = desk.look(2) == None;
+    let opened = desk.look(0) == None;
+    desk.release();
+    imported && opened
+}
+
+/// The same, at a desk of a registry.
+pub(crate) fn stays_unanswered<R: Wait>(rt: &R, alloc: Global) -> bool {
+    let Some((registry, one, _two)) = divided(alloc, 40) else {
+        return false;
+    };
+    let bell = Bell::new();
+    looks_in_vain(&mut SharedDesk::new(rt, &registry, one, &bell))
+}
+
 /// Whether connection 1, opened at place 3, exported and reported unit 0.
 fn compiles<D: Desk<Item = ()>>(desk: &mut D) -> bool
     requires fresh { IsFresh (D.tells desk.old) }
     requires project { (D.tells desk.old).seen.project ≡ four_units }
+    ensures { IsTrue result → HasOpen 1 (D.tells desk.new) }
 {
     let compiled = Act::Compiled {
         unit: Some(0),
@@ -154,19 +180,43 @@ fn compiles<D: Desk<Item = ()>>(desk: &mut D) -> bool
     enters(desk, 1, compiled, 6)
 }
 
-/// Whether an import at the second seat, which waited, has its reply once the unit is reported at the first.
-pub(crate) fn hears<R: Wait>(rt: &R, alloc: Global) -> bool {
-    let Some((registry, one, two)) = divided(alloc, 40) else {
-        return false;
-    };
+/// How often the bell was rung: once an import waits at the second seat, then once its unit is reported at the first
+/// and it has its reply, and then once the first seat's connection has left.
+pub(crate) fn hears<R: Wait>(rt: &R, alloc: Global) -> Option<[u64; 3]> {
+    let (registry, one, two) = divided(alloc, 40)?;
     let bell = Bell::new();
     let mut first = SharedDesk::new(rt, &registry, one, &bell);
     let mut second = SharedDesk::new(rt, &registry, two, &bell);
     if !awaits(&mut second) {
-        return false;
+        return None;
     }
+    let waits = bell.count(rt);
     if !compiles(&mut first) {
-        return false;
+        return None;
     }
-    second.look(2) == Some(Answer::Path(0))
+    let reported = bell.count(rt);
+    first.leave(1, Leaving::Left);
+    if second.look(2) != Some(Answer::Path(0)) {
+        return None;
+    }
+    Some([waits, reported, bell.count(rt)])
+}
+
+/// How often the bell was rung before a turn was passed that is kept, and in which an import that waits at another seat
+/// got its reply, and after that.
+pub(crate) fn rings_after<R: Wait>(rt: &R, alloc: Global) -> Option<[u64; 2]> {
+    let (registry, one, two) = divided(alloc, 40)?;
+    let bell = Bell::new();
+    let mut first = SharedDesk::new(rt, &registry, one, &bell);
+    let mut second = SharedDesk::new(rt, &registry, two, &bell);
+    if !awaits(&mut second) {
+        return None;
+    }
+    first.hold();
+    if !compiles(&mut first) {
+        return None;
+    }
+    let kept = bell.count(rt);
+    first.release();
+    Some([kept, bell.count(rt)])
 }

@@ -66,13 +66,13 @@ fn with_rooms(alloc: Global) -> Option<(Registry<NoShelf>, Seat, Seat)>
     Some((registry, one, two))
 }
 
-/// How many entries two seats made, each in its room.
-pub(crate) fn visits_twice<R: Wait>(rt: &R, alloc: Global) -> Option<u64> {
+/// Makes three entries at each of two seats, in its room. `None` comes where memory ran out.
+pub(crate) fn visits_twice<R: Wait>(rt: &R, alloc: Global) -> Option<()> {
     let (registry, one, two) = with_rooms(alloc)?;
     let bell = Bell::new();
     visits_at(rt, &registry, one, &bell);
     visits_at(rt, &registry, two, &bell);
-    Some(bell.count(rt))
+    Some(())
 }
 
 /// Whether a connection was opened and greeted, and its next request is refused, with two entries and three reserved.
@@ -100,17 +100,16 @@ fn is_full<D: Desk<Item = ()>>(desk: &mut D) -> bool
         })
 }
 
-/// How many entries two seats made, where both were refused once the limit of five was reached.
-pub(crate) fn fills_up<R: Wait>(rt: &R, alloc: Global) -> Option<u64> {
-    let (registry, one, two) = divided(alloc, 5)?;
+/// Whether two seats were refused once the limit of five was reached.
+pub(crate) fn fills_up<R: Wait>(rt: &R, alloc: Global) -> bool {
+    let Some((registry, one, two)) = divided(alloc, 5) else {
+        return false;
+    };
     let bell = Bell::new();
     let mut first = SharedDesk::new(rt, &registry, one, &bell);
     let mut second = SharedDesk::new(rt, &registry, two, &bell);
     if !fills(&mut first) {
-        return None;
+        return false;
     }
-    if !is_full(&mut second) {
-        return None;
-    }
-    Some(bell.count(rt))
+    is_full(&mut second)
 }

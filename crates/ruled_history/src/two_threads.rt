@@ -52,14 +52,41 @@ fn asks_often<D: Desk<Item = ()>>(
     true
 }
 
+/// Keeps the next turn, where turns are kept.
+fn holds<D: Desk<Item = ()>>(desk: &mut D, kept: bool)
+    ensures { D.tells desk.new ≡ D.tells desk.old }
+{
+    if kept {
+        desk.hold();
+    }
+}
+
+/// Whether the connection asked so often, in one turn where turns are kept.
+fn asks_in_turn<D: Desk<Item = ()>>(
+    desk: &mut D,
+    conn: u32,
+    count: u32,
+    kept: bool,
+    places: &mut Vec<u32>,
+) -> bool
+    requires has_open { HasOpen conn (D.tells desk.old) }
+    requires empty { places.old.items ≡ [] }
+    ensures { IsTrue result → Asked conn count places.new.items (D.tells desk.old) (D.tells desk.new) }
+{
+    holds(desk, kept);
+    let asked = asks_often(desk, conn, count, places);
+    desk.release();
+    asked
+}
+
 /// Opens a connection, asks so often, and leaves.
-fn serve<D: Desk<Item = ()>>(alloc: Global, desk: &mut D, count: u32) -> Option<Told>
+fn serve<D: Desk<Item = ()>>(alloc: Global, desk: &mut D, count: u32, kept: bool) -> Option<Told>
     requires fresh { IsFresh (D.tells desk.old) }
     ensures { IfSome result (λ told. Rounds told.conn count told.places.items (D.tells desk.old) (D.tells desk.new)) }
 {
     let mut places = Vec::new(alloc);
     let conn = opens_any(desk)?;
-    if !asks_often(desk, conn, count, &mut places) {
+    if !asks_in_turn(desk, conn, count, kept, &mut places) {
         return None;
     }
     desk.leave(conn, Leaving::Left);
@@ -74,6 +101,7 @@ fn serve_seat<R: Wait>(
     bell: &Bell,
     seat: Seat,
     count: u32,
+    kept: bool,
 ) -> Option<(Seat, Told)>
     requires seat { seat.registry ≡ registry.now.name }
     requires fresh { IsFreshSeat seat.knows }
@@ -81,7 +109,7 @@ fn serve_seat<R: Wait>(
     ensures { IfSome result (λ served. RoundsAt served.1.conn count served.1.places.items seat served.0) }
 {
     let mut desk = SharedDesk::new(rt, registry, seat, bell);
-    let told = serve(alloc, &mut desk, count)?;
+    let told = serve(alloc, &mut desk, count, kept)?;
     Some((desk.into_seat(), told))
 }
 
@@ -94,6 +122,7 @@ fn run_both<R: Threads + Wait + Sync>(
     one: Seat,
     two: Seat,
     count: u32,
+    kept: bool,
 ) -> (Option<(Seat, Told)>, Option<(Seat, Told)>)
     requires one { one.registry ≡ registry.now.name }
     requires two { two.registry ≡ registry.now.name }
@@ -110,13 +139,13 @@ fn run_both<R: Threads + Wait + Sync>(
             requires fresh { IsFreshSeat one.knows }
             requires loose { IsFalse registry.now.metered }
             ensures { IfSome result (λ served. RoundsAt served.1.conn count served.1.places.items one served.0) }
-        { serve_seat(rt, alloc, registry, bell, one, count) },
+        { serve_seat(rt, alloc, registry, bell, one, count, kept) },
         || -> Option<(Seat, Told)>
             requires seat { IsSync R.row × (two.registry ≡ registry.now.name) }
             requires fresh { IsFreshSeat two.knows }
             requires loose { IsFalse registry.now.metered }
             ensures { IfSome result (λ served. RoundsAt served.1.conn count served.1.places.items two served.0) }
-        { serve_seat(rt, alloc, registry, bell, two, count) },
+        { serve_seat(rt, alloc, registry, bell, two, count, kept) },
     )
 }
 
@@ -128,12 +157,13 @@ fn serve_both<R: Threads + Wait + Sync>(
     one: Seat,
     two: Seat,
     count: u32,
+    kept: bool,
 ) -> Option<(Seat, Told, Told)>
     requires { (limit : ℕ) × Divided limit registry.now one two }
     ensures { IfSome result (λ both. BothServed registry.now both.0 count both.1.conn both.1.places.items both.2.conn both.2.places.items) }
 {
     let bell = Bell::new();
-    let (first, second) = run_both(rt, alloc, registry, &bell, one, two, count);
+    let (first, second) = run_both(rt, alloc, registry, &bell, one, two, count, kept);
     let (one, told) = first?;
     let (two, other) = second?;
     Some((registry.join(one, two), told, other))
@@ -147,17 +177,19 @@ pub(crate) struct TwoThreads {
     pub(crate) two: Told,
 }
 
-/// The example: two threads each open a connection, ask so often where interfaces are kept, and leave. The closed book
-/// has these entries and no others, each at its place. `None` comes where memory ran out or the book was full.
+/// The example: two threads each open a connection, ask so often where interfaces are kept, each time in a turn of its
+/// own or all in one that is kept, and leave. The closed book has these entries and no others, each at its place. `None`
+/// comes where memory ran out or the book was full.
 pub(crate) fn two_threads<R: Threads + Wait + Sync>(
     rt: &R,
     alloc: Global,
     count: u32,
+    kept: bool,
 ) -> Option<TwoThreads>
     ensures { IfSome result (λ run. AreTwoRounds run.book.ledger.entries count run.one.conn run.one.places.items run.two.conn run.two.places.items) }
 {
     let (registry, one, two) = divided(alloc, 300)?;
-    let (seat, one, two) = serve_both(rt, alloc, &registry, one, two, count)?;
+    let (seat, one, two) = serve_both(rt, alloc, &registry, one, two, count, kept)?;
     let book = registry.close(seat);
     Some(TwoThreads { book, one, two })
 }

@@ -1,9 +1,6 @@
-use Rattle.std.proofs.Common.{◌≡◌, ℕ, ◌%◌, ◌^◌, []}
-use Rattle.ruled_history.specs.declared.board.Stage.TheVariants.{Waits}
-use Rattle.ruled_history.specs.Views.{at_stage}
-use Rattle.ruled_history.specs.Seats.{IsSame}
+use Rattle.ruled_history.specs.Seats.{StandsAfter}
+use Rattle.ruled_history.specs.Steps.{AtTurn}
 use Rattle.ruled_history.proofs.turn.take_turn.Given as goal
 
--- the seat waits with its ticket
-abbrev pub invariant-loop : goal.invariant-loop
-invariant-loop g l = IsSame l.fn.place l.place × (l.place.me.1 ≡ []) × ((t : ℕ) × (l.place.me.0 ≡ at_stage (Waits t) l.fn.place.me.0) × (l.ticket ≡ t % 2 ^ 64))
+abbrev pub ghosts-wait_for_turn : goal.ghosts-wait_for_turn
+ghosts-wait_for_turn g a = let opening = a.board.now.table.shared.key.opening.value in record { tells = AtTurn (StandsAfter g.S.Shelf.kept g.S.Shelf.held opening) opening.ledger }
