@@ -1,0 +1,15 @@
+pub mod Courses
+pub mod Standings
+pub mod Endings
+pub mod Stepping
+pub mod Leaving
+pub mod Alone
+pub mod Waiting
+pub mod Comes
+pub mod Solo
+pub mod Rests
+pub mod Causing
+pub mod Beginning
+pub mod Soloist
+pub mod Opening
+pub mod Joined
