@@ -1,30 +1,13 @@
-//! A link and a sink over any reader and writer of std, the standard streams among them. They tell no octets: what
-//! a stream really gives and takes is outside every clause.
-
-ghost use Rattle.std.specs.Prelude.{None};
-ghost use Rattle.mm_outside.specs.Causes.{HasCause};
-ghost use Rattle.mm_outside.specs.Octets.{WritesSome};
+//! A link and a sink over any reader and writer of std, the standard streams among them. A sink tells what its writer
+//! tells. A link tells no octets by its trait, since it keeps none that it read; what a read takes from its reader and
+//! what a write gives to its writer are clauses of its own calls.
 
 #[cfg(test)]
 mod tests;
 
+use crate::streams::{read_some, write_some};
 use mm_outside::{Failed, Link, Sink};
 use std::io::{Read, Write};
-
-/// Writes octets from the front of `piece`, at least one, and answers how many. Each error, and a writer that takes no
-/// octets, raises the count of faults.
-fn write_some<W: Write>(writer: &mut W, piece: &[u8], faults: &mut u64) -> Result<usize, Failed>
-    ensures bound { WritesSome result piece.now }
-    ensures cause { HasCause faults.old faults.new result }
-{
-    match writer.write(piece) {
-        Ok(count) if count > 0 => Ok(count),
-        _ => {
-            *faults = faults.saturating_add(1);
-            Err(Failed)
-        }
-    }
-}
 
 /// A link over a reader and a writer. Each error of the reader, and each of the writer, raises its count of faults;
 /// a writer that takes no octets has failed.
@@ -53,23 +36,36 @@ impl<R: Read, W: Write> Pipe<R, W> {
 }
 
 impl<R: Read, W: Write> Link for Pipe<R, W> {
+    ghost use Rattle.std.specs.Prelude.{◌≡◌, ◌<◌, length, None};
+    ghost use Rattle.std.specs.Io.{ReadsAtMost};
+    ghost use Rattle.mm_outside.specs.Causes.{HasCause};
+    ghost use Rattle.mm_outside.specs.Octets.{Reads, Writes, WritesSome};
+    ghost use Rattle.mm_outside.specs.Told.{Told};
+    ghost use Rattle.modmap.specs.Adapters.{ReadsFrom, WritesTo, read_faults_of, write_faults_of};
+
     ghost octets = { λ _. None };
 
-    ghost read_faults = { λ pipe. pipe.read_faults };
+    ghost read_faults = { read_faults_of };
 
-    ghost write_faults = { λ pipe. pipe.write_faults };
+    ghost write_faults = { write_faults_of };
 
-    fn read(&mut self, room: &mut [u8]) -> Result<usize, Failed> {
-        match self.reader.read(room) {
-            Ok(count) => Ok(count),
-            Err(_) => {
-                self.read_faults = self.read_faults.saturating_add(1);
-                Err(Failed)
-            }
-        }
+    fn read(&mut self, room: &mut [u8]) -> Result<usize, Failed>
+        requires { 0 < length room.old }
+        ensures bound { ReadsAtMost result room.new }
+        ensures cause { HasCause (read_faults_of self.old) (read_faults_of self.new) result }
+        ensures write_faults { write_faults_of self.new ≡ write_faults_of self.old }
+        ensures streams { ReadsFrom R.remaining result room.new self.old self.new }
+    {
+        read_some(&mut self.reader, room, &mut self.read_faults)
     }
 
-    fn write(&mut self, piece: &[u8]) -> Result<usize, Failed> {
+    fn write(&mut self, piece: &[u8]) -> Result<usize, Failed>
+        requires { 0 < length piece.now }
+        ensures bound { WritesSome result piece.now }
+        ensures cause { HasCause (write_faults_of self.old) (write_faults_of self.new) result }
+        ensures read_faults { read_faults_of self.new ≡ read_faults_of self.old }
+        ensures streams { WritesTo W.contents result piece.now self.old self.new }
+    {
         write_some(&mut self.writer, piece, &mut self.write_faults)
     }
 }
@@ -82,18 +78,18 @@ pub struct WriterSink<W> {
 }
 
 impl<W: Write> WriterSink<W> {
-    ghost use Rattle.modmap.specs.Adapters.{WritesTo};
+    ghost use Rattle.modmap.specs.Adapters.{IsSinkOver};
 
     /// A sink that writes to `writer`.
     pub fn new(writer: W) -> WriterSink<W>
-        ensures { WritesTo writer result }
+        ensures { IsSinkOver writer result }
     {
         WriterSink { writer, faults: 0 }
     }
 }
 
 impl<W: Write> Sink for WriterSink<W> {
-    ghost written = { λ _. None };
+    ghost written = { λ sink. W.contents sink.writer };
 
     ghost faults = { λ sink. sink.faults };
 

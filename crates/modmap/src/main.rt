@@ -2,56 +2,44 @@
 //! checks and replays traces, compiles the units of a project one by one with a report, and generates projects.
 #![tactic(auto)]
 
-ghost use Rattle.std.specs.Prelude.{◌≡◌, ◌≢◌, ◌↔◌, IsTrue};
+ghost use Rattle.std.specs.Prelude.{◌≡◌, ◌≢◌, ◌↔◌, IfOk, IsTrue, drop};
 ghost use Rattle.std.specs.IoError.{error_kind};
-ghost use Rattle.modmap.specs.Commands.{BeginsWithPipe};
-ghost use Rattle.modmap.specs.Endings.{BadWords, OutOfMemory, told_by};
+ghost use Rattle.std.specs.Process.{exit_status};
+ghost use Rattle.std.specs.Vec.Iter.{into_iter_items};
+ghost use Rattle.mapper_commands.specs.Commands.{BeginsWithPipe};
+ghost use Rattle.mapper_commands.specs.Endings.{BadWords, OutOfMemory, told_by};
 
 mod adapters;
-mod alone;
-mod askings;
-mod check;
-mod command;
 mod disk;
-mod ending;
-#[cfg(test)]
-mod gen_tests;
-mod generator;
-mod held;
-mod list;
-#[cfg(test)]
-mod list_tests;
-mod pipe;
-mod project_file;
-mod replay;
-#[cfg(test)]
-mod replay_tests;
-mod sources;
-mod telling;
+mod sockets;
+mod streams;
 #[cfg(test)]
 mod tests;
-mod trace_file;
-#[cfg(test)]
-mod trace_tests;
-mod unit_files;
-mod verb;
 
 use adapters::{Pipe, WriterSink};
-use alone::run_alone;
 use disk::DiskFiles;
-use ending::Ending;
+use mapper_commands::{Ending, run_alone, tell};
+use std::alloc::{AllocError, Global};
 use std::env;
 use std::io::{self, ErrorKind};
 use std::process::ExitCode;
-use telling::tell;
 
-/// The words of the command line, without the program's name.
-fn words(rt: &HostRuntime) -> io::Result<Vec<String>> {
-    let mut words = Vec::new(rt.alloc());
-    for word in env::args(rt)?.skip(1) {
+/// The words after the first one, which is the program's name.
+fn words_after_name(alloc: Global, all: env::Args) -> Result<Vec<String>, AllocError>
+    ensures { IfOk result (λ words. words.items ≡ drop 1 (into_iter_items all)) }
+{
+    let mut all = all;
+    let _name = all.next();
+    let mut words = Vec::new(alloc);
+    for word in all {
         words.push(word)?;
     }
     Ok(words)
+}
+
+/// The words of the command line, without the program's name.
+fn words(rt: &HostRuntime) -> io::Result<Vec<String>> {
+    Ok(words_after_name(rt.alloc(), env::args(rt)?)?)
 }
 
 /// Whether the first word is `pipe`. Standard output is then the link's, and messages go to standard error.
@@ -76,15 +64,23 @@ fn ending_without_words(error: &io::Error) -> Ending<'static>
     }
 }
 
+/// What the machine is told of a run that ends with this status.
+fn exit_code(status: u8) -> ExitCode
+    ensures { exit_status result ≡ status }
+{
+    ExitCode::from(status)
+}
+
 fn main(rt: HostRuntime) -> ExitCode {
     let words = match words(&rt) {
         Ok(words) => words,
         Err(error) => {
             let mut out = WriterSink::new(rt.stderr());
-            return ExitCode::from(tell(rt.alloc(), ending_without_words(&error), &mut out));
+            let status = tell(rt.alloc(), ending_without_words(&error), &mut out);
+            return exit_code(status);
         }
     };
-    let mut files = DiskFiles::new(&rt);
+    let mut files = DiskFiles::new(&rt, rt.alloc());
     let mut link = Pipe::new(rt.stdin(), rt.stdout());
     let status = if begins_with_pipe(&words) {
         let mut out = WriterSink::new(rt.stderr());
@@ -93,5 +89,5 @@ fn main(rt: HostRuntime) -> ExitCode {
         let mut out = WriterSink::new(rt.stdout());
         run_alone(&rt, rt.alloc(), &words, &mut files, &mut link, &mut out)
     };
-    ExitCode::from(status)
+    exit_code(status)
 }

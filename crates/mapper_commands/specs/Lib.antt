@@ -1,0 +1,14 @@
+pub mod Commands
+pub mod Endings
+pub mod FileReadings
+pub mod ProjectFiles
+pub mod TraceFiles
+pub mod Reports
+pub mod Running
+pub mod Replays
+pub mod Paging
+pub mod Plays
+pub mod Generating
+pub mod Askings
+pub mod ListRuns
+pub mod Meanings

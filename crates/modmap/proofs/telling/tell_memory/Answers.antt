@@ -1,6 +1,0 @@
-use Rattle.std.proofs.Common.{inl, refl}
-use Rattle.modmap.specs.Endings.{OutOfMemory}
-use Rattle.modmap.proofs.telling.tell_memory.Goals as goal
-
-pub returns : goal.returns
-returns g c = record { ending = OutOfMemory; status_is = refl; spoken = c.print_text.ensures.written; cause = c.print_text.ensures.cause; so = inl refl }
