@@ -13,3 +13,13 @@ pub mod Beginning
 pub mod Soloist
 pub mod Opening
 pub mod Joined
+pub mod Printed
+pub mod Leasts
+pub mod Returning
+pub mod Working
+pub mod Counted
+pub mod Completes
+pub mod Halls
+pub mod Gathering
+pub mod Numbers
+pub mod Closing

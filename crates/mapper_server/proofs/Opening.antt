@@ -1,5 +1,5 @@
 -- A connection that has just opened, and one that was served and after which more is entered.
-use Rattle.std.proofs.Common.{◌≡◌, ◌≢◌, inl, inr, ℕ, suc, ◌<◌, ◌==◌, Bool, None, List, [], ◌∷◌, ◌++◌, length, Contains, Some, true, false, cond, eq-eqb, eqb-true, ne_eqb, refl, sym, ap, subst, ◌∙◌, append_assoc, arith}
+use Rattle.std.proofs.Common.{◌≡◌, ◌≢◌, inl, inr, ℕ, suc, ◌<◌, ◌==◌, Bool, None, List, [], ◌∷◌, ◌++◌, length, Some, true, false, cond, eq-eqb, eqb-true, refl, sym, ap, subst, ◌∙◌, arith}
 use Rattle.std.specs.Prelude.{slice_get}
 use Rattle.mm_outside.specs.Octets.{Octets}
 use Rattle.unit_registry.specs.declared.act.Act.TheVariants as act
@@ -7,8 +7,7 @@ use Rattle.histories.specs.declared.entry.Entry.{Entry}
 use Rattle.histories.specs.Entries.{no_connection}
 use Rattle.histories.proofs.Members.{In, Contains-from_In}
 use Rattle.registry_core.specs.Ledgers.{LedgerView, entry}
-use Rattle.registry_core.specs.Desks.{DeskState, Adds, GoesOnFor, IsSound, Stays}
-use Rattle.registry_core.proofs.Desks.{adds_apart, adds_own, stays_further}
+use Rattle.registry_core.specs.Desks.{DeskState, Adds, IsSound}
 use Rattle.registry_core.proofs.Ready.{number_below}
 use Rattle.std.proofs.lemmas.Bool.{and_parts}
 use Rattle.std.proofs.lemmas.List.Elements.{All-contains}
@@ -43,7 +42,7 @@ position_of e [] there = absurd there
 position_of e (x ∷ es) (inl same) = (0, omega arith, ap (λ (y : Entry). Some y) same)
 position_of e (x ∷ es) (inr there) = let p = position_of e es there in (suc p.0, omega (arith, p.1), p.2)
 
-in_left : (e : Entry) (first second : List Entry) → In e first → In e (first ++ second)
+pub in_left : (e : Entry) (first second : List Entry) → In e first → In e (first ++ second)
 in_left e [] second there = absurd there
 in_left e (x ∷ first) second (inl same) = inl same
 in_left e (x ∷ first) second (inr there) = inr (in_left e first second there)
@@ -86,26 +85,3 @@ opens_anew conn place before after sound adds = record {
             let small = sound.ledger.small in
             omega (arith, below, small, nobody, same)
         by false running = let below = numbered running in omega (arith, below, next, same)
-
--- the end of a worker leaves a connection served
-pub done_serves : {Held : Type 0} (opened before after : DeskState Held) (conn place : ℕ) (how : ConnEnd) (a b : Octets) → HasOpened conn opened → before.connections ≡ opened.connections → IsSound before → IsSound after → Adds before (entry no_connection act.Done) place after → ServesIn before.seen conn how a b → ServesIn after.seen conn how a b
-done_serves opened before after conn place how a b has same was sound adds h =
-    serves_later before.seen after.seen (adds.since ++ entry no_connection act.Done ∷ []) conn how a b
-    (λ j. record { project = adds.stays.project j; workers = adds.stays.workers j; limit = adds.stays.limit j; entries = (adds.history ∙ append_assoc before.seen.entries adds.since (entry no_connection act.Done ∷ [])) j })
-    (acts-append conn adds.since (entry no_connection act.Done ∷ [])
-    ∙ ap (λ xs. xs ++ acts_of conn (entry no_connection act.Done ∷ [])) (acts-apart conn adds.since (adds_apart before after (entry no_connection act.Done) place was sound adds conn (subst (λ (cs : List ℕ). Contains cs conn) (sym same) has.serving.own)))
-    ∙ ap (λ t. cond t (act.Done ∷ []) []) (ne_eqb no_connection conn differs))
-    h
-  where
-    differs : no_connection ≢ conn
-    differs e =
-        let below = number_below opened.seen conn has.serving.sound.ledger has.serving.there in
-        let small = has.serving.sound.ledger.small in
-        omega (arith, below, small, e)
-
--- a connection that was served and a worker that has ended leave these of the desk
-pub served_stays : {Held : Type 0} (conn : ℕ) (first opened served done : DeskState Held) (opens ends : Entry) (place other : ℕ) → Adds first opens place opened → GoesOnFor conn opened served → Adds served ends other done → Stays first done
-served_stays conn first opened served done opens ends place other adds goes last = stays_further first opened done adds.stays (stays_further opened served done goes.stays last.stays)
-
-pub served_own : {Held : Type 0} (conn : ℕ) (opened served done : DeskState Held) (other : ℕ) → HasOpened conn opened → GoesOnFor conn opened served → Adds served (entry no_connection act.Done) other done → Contains done.connections conn
-served_own conn opened served done other has goes last = adds_own served done (entry no_connection act.Done) other last conn (subst (λ (cs : List ℕ). Contains cs conn) (sym goes.connections) has.serving.own)

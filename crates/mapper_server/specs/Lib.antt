@@ -2,3 +2,10 @@ pub mod Serving
 pub mod Steps
 pub mod Limits
 pub mod Examples
+pub mod Printing
+pub mod Backs
+pub mod Statuses
+pub mod Headline
+pub mod Workers
+pub mod Sharing
+pub mod Complete

@@ -8,3 +8,7 @@ fewest_entries = 3
 -- the most
 abbrev pub most_entries : ℕ
 most_entries = 1048576
+
+-- the most halls that are served at once
+abbrev pub most_halls : ℕ
+most_halls = 64

@@ -1,11 +1,11 @@
 -- What serving one connection over a desk comes to.
-use Rattle.std.specs.Prelude.{◌≡◌, ℕ, ◌+◌, ◌≤◌, List, [], ◌∷◌, ◌++◌, length, None}
+use Rattle.std.specs.Prelude.{◌≡◌, ℕ, ◌+◌, ◌≤◌, List, [], ◌∷◌, ◌++◌, length, None, Contains}
 use Rattle.mm_outside.specs.Octets.{Octets}
 use Rattle.unit_registry.specs.declared.act.Act.TheVariants.{Open}
 use Rattle.unit_registry.specs.Projects.{ProjectView}
 use Rattle.histories.specs.declared.entry.Entry.{Entry}
 use Rattle.registry_core.specs.Ledgers.{LedgerView, IsFull, entry, reserved_in}
-use Rattle.registry_core.specs.Desks.{DeskState}
+use Rattle.registry_core.specs.Desks.{DeskState, Stays}
 use Rattle.connection_core.specs.declared.conn_end.ConnEnd.{ConnEnd}
 use Rattle.connection_core.specs.declared.conn_end.ConnEnd.TheVariants.{HistoryFull}
 use Rattle.connection_core.specs.Answers.{acts_of}
@@ -34,6 +34,14 @@ pub record ServesIn (seen : LedgerView) (conn : ℕ) (how : ConnEnd) (before now
   pub written : List ℕ
   pub moves : Moves read written before now
   pub served : Served seen.project seen.workers seen.limit seen.entries conn how (record { read = read; to_come = now.to_come; written = written })
+
+-- what the history of a desk was before is the front of what it is now, and the connections that the desk had have done
+-- nothing since
+pub record LeavesOthers {Held : Type 0} (before after : DeskState Held) : Type 0 where
+  pub since : List Entry
+  pub history : after.seen.entries ≡ before.seen.entries ++ since
+  pub rest : (conn : ℕ) → Contains before.connections conn → acts_of conn since ≡ []
+  pub stays : Stays before after
 
 -- where the end is that of a full history, its numbers add up to the limit: the entries and the ends still to come
 abbrev pub FillsUp : ConnEnd → ℕ → Type 0

@@ -8,10 +8,10 @@ ghost use Rattle.ruled_history.specs.Views.{with_entries};
 ghost use Rattle.mapper_server.specs.Examples.{IsKept};
 ghost use Rattle.mapper_server.specs.Serving.{ServesIn};
 
-use crate::worker::{ServedConn, serve_one};
+use crate::worker::{ServedConn, serve_link};
 use connection_core::Session;
 use mm_outside::Link;
-use registry_core::{Book, NoShelf};
+use registry_core::{Book, Desk, NoShelf};
 use ruled_history::{Bell, Registry, Seat, SharedDesk};
 use std::alloc::Global;
 use std::sync::Wait;
@@ -38,7 +38,8 @@ fn serve_seat<R: Wait, L: Link>(
     ensures served { IfSome result (λ done. Told (ServesIn (with_entries registry.now.opening.ledger done.0.knows.seen) done.1.conn done.1.how) (L.octets link.old) (L.octets link.new)) }
 {
     let mut desk = SharedDesk::new(rt, registry, seat, bell);
-    let served = serve_one(rt, project, session, &mut desk, bell, link)?;
+    let served = serve_link(rt, project, session, &mut desk, bell, link)?;
+    desk.done();
     Some((desk.into_seat(), served))
 }
 

@@ -7,7 +7,7 @@ ghost use Rattle.registry_core.specs.Desks.{IsSound};
 ghost use Rattle.connection_core.specs.Ends.{HasCauses};
 ghost use Rattle.connection_core.specs.Serving.{ServesAlone};
 ghost use Rattle.mapper_server.specs.Limits.{fewest_entries, most_entries};
-ghost use Rattle.mapper_server.specs.Serving.{IsAnew};
+ghost use Rattle.mapper_server.specs.Serving.{FillsUp, IsAnew};
 ghost use Rattle.mapper_server.specs.Steps.{Continues, EndsSo, HasOpenedFirst, TellsFull};
 
 use crate::connection::{READ_ROOM, leaving};
@@ -19,7 +19,11 @@ use std::alloc::Global;
 use unit_registry::Project;
 
 /// Serves a link as the only connection, to its end, over a history of the project with at most so many entries. It
-/// wants memory only before the first read, and never waits.
+/// never waits.
+///
+/// # Errors
+///
+/// `Memory` comes only before the first read.
 pub fn pipe<L: Link>(
     alloc: Global,
     project: &Project,
@@ -30,10 +34,12 @@ pub fn pipe<L: Link>(
     requires most { entries ≤ most_entries }
     ensures served { IfOk result (λ how. Told (ServesAlone project.now entries how) (L.octets link.old) (L.octets link.new)) }
     ensures causes { IfOk result (λ how. HasCauses (L.read_faults link.old) (L.read_faults link.new) (L.write_faults link.old) (L.write_faults link.new) how) }
+    ensures full { IfOk result (λ how. FillsUp how entries) }
     ensures memory { OnErr result (link.new ≡ link.old) }
 {
     let mut session = Session::new(alloc)?;
     let mut room = vec![in alloc; 0; READ_ROOM]?;
+    // A call for its clause alone: the project has few enough units for a book.
     project.unit_count();
     let book = Book::new(alloc, project, 1, entries, NoShelf::new())?;
     let mut desk = SoloDesk::new(book);
@@ -56,6 +62,7 @@ where
     requires fewest { 3 ≤ desk.old.book.ledger.limit }
     ensures served { Told (ServesAlone project.now desk.old.book.ledger.limit result) (L.octets link.old) (L.octets link.new) }
     ensures causes { HasCauses (L.read_faults link.old) (L.read_faults link.new) (L.write_faults link.old) (L.write_faults link.new) result }
+    ensures full { FillsUp result desk.old.book.ledger.limit }
 {
     let _conn = desk.open().unwrap();
     let how = serve(project, session, desk, link, room);

@@ -64,7 +64,7 @@ fn main(rt: HostRuntime) -> io::Result<ExitCode> {
             Ok(ExitCode::SUCCESS)
         }
         None => {
-            println!(&rt; "no memory")?;
+            println!(&rt; "memory ran out, or the history was full")?;
             Ok(ExitCode::from(3))
         }
     }

@@ -2,6 +2,7 @@ use Rattle.std.proofs.Common.{sym, ap, subst, ◌∙◌, true≢false}
 use Rattle.std.specs.Option.{is_some}
 use Rattle.mm_outside.specs.Told.{Told}
 use Rattle.connection_core.specs.Serving.{ServesAlone}
+use Rattle.mapper_server.specs.Serving.{FillsUp}
 use Rattle.mapper_server.proofs.single.pipe.Goals as goal
 
 pub new-requires-3-clause-built : goal.new-requires-3-clause-built
@@ -20,3 +21,6 @@ pub returns-clause-served : goal.returns-clause-served
 returns-clause-served g c =
     subst (λ limit. Told (ServesAlone c.args.project.now limit c.serve_alone.result) (g.L.Link.octets c.args.link.now) (g.L.Link.octets c.serve_alone.new.link)) (ap (λ book. book.ledger.limit) (c.new-desk.ensures.book ∙ c.in_ok-book.ensures))
     c.serve_alone.ensures.served
+
+pub returns-clause-full : goal.returns-clause-full
+returns-clause-full g c = subst (λ limit. FillsUp c.serve_alone.result limit) (ap (λ book. book.ledger.limit) (c.new-desk.ensures.book ∙ c.in_ok-book.ensures)) c.serve_alone.ensures.full

@@ -1,0 +1,23 @@
+-- The status that serving ends with.
+use Rattle.std.specs.Prelude.{◌≡◌, ℕ, zero, suc, ◌≤◌, ◌<◌, min, List, ◌⊎◌, map}
+use Rattle.mm_outside.specs.declared.hall.Back.{Back}
+
+-- The status is the least number above 0 of those that must count, where one of them does; some number that may count;
+-- or 0, where none must.
+pub record IsLeast (may must : ℕ → Type 0) (status : ℕ) : Type 0 where
+  pub cause : (status ≡ 0) ⊎ may status
+  pub least : (other : ℕ) → 0 < other → must other → (0 < status) × (status ≤ other)
+
+-- a count has grown in this call
+abbrev pub Grew : ℕ → ℕ → Type 0
+Grew before now = before < now
+
+-- the statuses that these links were given back with
+abbrev pub statuses_of : {L : Type 0} → List (Back L) → List ℕ
+statuses_of = map (λ back. back.status)
+
+-- of two statuses the less that is above 0
+abbrev pub less_of : ℕ → ℕ → ℕ
+less_of zero other = other
+less_of (suc status) zero = suc status
+less_of (suc status) (suc other) = min (suc status) (suc other)
