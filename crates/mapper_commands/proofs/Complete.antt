@@ -13,9 +13,6 @@ use Rattle.cody_batches.proofs.LimitLaws.{limits_stay, taken_whole, within_limit
 use Rattle.unit_registry.specs.declared.act.Act.{Act as Acts}
 use Rattle.unit_registry.specs.declared.act.Act.TheVariants as act
 use Rattle.unit_registry.specs.Projects.{ProjectView}
-use Rattle.unit_registry.specs.Readings.{Declares}
-use Rattle.unit_registry.proofs.Grammars.{declared_reaches}
-use Rattle.unit_registry.proofs.Outcomes.{one_project}
 use Rattle.connection_core.specs.declared.conn_end.ConnEnd.{ConnEnd}
 use Rattle.connection_core.specs.declared.conn_end.ConnEnd.TheVariants.{Closed, Truncated, ReadFault, WriteFault, TooLong, BatchTooLong, HistoryFull}
 use Rattle.connection_core.specs.Asking.{Block, acts}
@@ -27,17 +24,10 @@ use Rattle.mapper_commands.specs.ProjectFiles.{DeclaresProject, FindsProject}
 use Rattle.mapper_commands.specs.Running.{Outside, ReadsProject, Pipes, served, refused, no_memory, IsWhole, HasStood, LacksFile}
 use Rattle.connection_core.specs.Serving.{ServesAlone}
 use Rattle.mapper_server.proofs.Alone.{acts_behind}
-use Rattle.mapper_commands.proofs.FileLemmas.{same_some, told_project_taken}
+use Rattle.mapper_commands.proofs.FileLemmas.{told_project, told_project_taken}
 use Rattle.mapper_commands.proofs.Runnings.{conn_fault}
 use Rattle.mapper_server.proofs.Alone.{gone_course}
 use Rattle.mapper_commands.proofs.Statuses.{differ, file_four}
-
--- ---- one project
-
-pub same_project : (content : Option (List ℕ)) (project other : ProjectView) → DeclaresProject content project → DeclaresProject content other → project ≡ other
-same_project content project other p q =
-    let texts : p.text ≡ q.text = same_some p.text q.text (sym p.held_is ∙ q.held_is) in
-    one_project q.text project other (declared_reaches q.text project (subst (λ t. Declares t project) texts p.says)) (declared_reaches q.text other q.says)
 
 -- ---- one end
 
@@ -103,12 +93,6 @@ told_closed project entries how (Some before) None known read write told = absur
 told_closed project entries how (Some before) (Some now) known read write told = ends_closed project entries how before now known read write told.so
 
 -- ---- one ending
-
--- the project that was read is the one that the file declares
-pub told_project : (failed : Type 0) (name : List ℕ) (project other : ProjectView) (before now : Option Lookup) → IsSomeAnd before (λ content. DeclaresProject (content name) project) → Told (FindsProject failed name (Ok other)) before now → other ≡ project
-told_project failed name project other None now known told = absurd known
-told_project failed name project other (Some before) None known told = absurd told.so
-told_project failed name project other (Some before) (Some now) known told = same_project (before name) other project told.so.so known
 
 module _ {L : Type 0} (outside : Outside L) (words : List (String Global)) (name : List ℕ) (entries : ℕ) (asks : AsksFor (map string_bytes words) (Pipe name entries)) where
   not_taken : (project : ProjectView) (ended : Ended) → IsSomeAnd outside.files_before (λ content. DeclaresProject (content name) project) → HasStood outside.file_reads_before outside.file_reads_now → ReadsProject outside name (Err ended) → status_of ended ≡ 3

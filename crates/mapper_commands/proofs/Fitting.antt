@@ -24,7 +24,7 @@ use Rattle.mapper_commands.specs.Meanings.{FitsHistory, ReadsWithin}
 use Rattle.mapper_commands.specs.ProjectFiles.{DeclaresProject}
 use Rattle.mapper_commands.specs.Running.{Outside, DoesTask, Pipes, served, refused, no_memory}
 use Rattle.connection_core.specs.Serving.{ServesAlone}
-use Rattle.mapper_commands.proofs.Complete.{told_project}
+use Rattle.mapper_commands.proofs.FileLemmas.{told_project}
 use Rattle.mapper_commands.proofs.Forms.{one_task}
 use Rattle.mapper_server.proofs.Alone.{gone, gone_course}
 use Rattle.mapper_commands.proofs.Tasks.{pipe_bounds}

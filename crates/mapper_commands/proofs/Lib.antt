@@ -18,3 +18,9 @@ pub mod Puttings
 pub mod Played
 pub mod MeaningLemmas
 pub mod Fitting
+mod Colons
+pub mod WordLemmas
+pub mod Spellings
+pub mod ServeForms
+pub mod ServingStatus
+pub mod Hostings

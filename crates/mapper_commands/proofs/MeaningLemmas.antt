@@ -15,7 +15,7 @@ use Rattle.connection_core.specs.declared.conn_end.ConnEnd.{ConnEnd}
 use Rattle.connection_core.specs.declared.conn_end.ConnEnd.TheVariants.{Closed, Truncated, ReadFault, WriteFault, TooLong, BatchTooLong, HistoryFull}
 use Rattle.trace_text.specs.declared.trace.Trace.{Trace}
 use Rattle.mapper_commands.specs.Commands.{Task, Pipe, Check, Replay, ListUnits, Generate, AsksFor}
-use Rattle.mapper_commands.specs.Endings.{Report, Ended, BadWords, OutOfMemory, CannotRead, FileTooLong, Refused, Served, Reported, Cut, WriteFailed, EndsIn, Output, Prints, Speaks, message_of, status_of}
+use Rattle.mapper_commands.specs.Endings.{Report, Ended, BadWords, OutOfMemory, CannotRead, FileTooLong, Refused, CannotOpen, Served, Reported, Cut, WriteFailed, EndsIn, Output, Speaks, status_of}
 use Rattle.mapper_commands.specs.ListRuns.{ListsSo, RefusesList, list_report}
 use Rattle.mapper_commands.specs.Meanings.{FillsHistory, IsEitherRefused, IsOverTrace, IsOverUnits, IsRefusedOf, IsReportOf, Judges, NamesRefused, ReadsBeyond, ReadsTooMuch, EndsInBlock}
 use Rattle.mapper_commands.specs.ProjectFiles.{DeclaresProject, FindsProject, IsOfFile, IsReadAs}
@@ -25,28 +25,10 @@ use Rattle.mapper_commands.specs.Running.{Outside, DoesTask, IsReport, Pipes, se
 use Rattle.connection_core.specs.Serving.{ServesAlone}
 use Rattle.mapper_commands.specs.TraceFiles.{FindsTrace}
 use Rattle.mapper_commands.proofs.Complete.{never_full}
+use Rattle.mapper_commands.proofs.FileLemmas.{told_before}
+use Rattle.mapper_commands.proofs.PrintLemmas.{six_speaks}
 use Rattle.mapper_commands.proofs.Statuses.{differ, in_report, of_file, report_never, status_by}
 use Rattle.mapper_commands.proofs.Writings.{gen_never}
-
--- what was told before
-told_before : {A : Type 0} {R : A → A → Type 0} (P : A → Type 0) → ((x y : A) → R x y → P x) → (a b : Option A) → Told R a b → IfSome a P
-told_before P step None b told = tt
-told_before P step (Some x) None told = absurd told.so
-told_before P step (Some x) (Some y) told = step x y told.so
-
--- ---- a file that is refused
-
--- behind status 6 a message is printed
-six_speaks : (ended : Ended) → status_of ended ≡ 6 → (b n : ℕ) (x y : Option (List ℕ)) → Told (Speaks ended b n) x y → Told (Prints (message_of ended) b n) x y
-six_speaks BadWords six b n x y told = told
-six_speaks OutOfMemory six b n x y told = told
-six_speaks (CannotRead named) six b n x y told = told
-six_speaks (FileTooLong named) six b n x y told = told
-six_speaks (Refused named line reason) six b n x y told = told
-six_speaks (Served how) six b n x y told = told
-six_speaks (Reported report) six b n x y told = absurd (report_never report (Reported report) 6 (inl refl) (λ e. omega (arith, e)) (λ e. omega (arith, e)) (λ e. omega (arith, e)) six)
-six_speaks (Cut report) six b n x y told = absurd (omega (arith, six))
-six_speaks WriteFailed six b n x y told = told
 
 -- ---- a report that is printed whole
 

@@ -22,7 +22,7 @@ use Rattle.histories.proofs.Legality.{legal_one_more, legal_prefix, noted_push}
 use Rattle.histories.proofs.LegalCounts.{ends_fit}
 use Rattle.registry_core.specs.Ledgers.{Appends, LedgerView, Passes, answered_last, answered_with, noted_in, open_in, reply_at, waiting_in, with_entry}
 use Rattle.trace_text.specs.declared.trace.Trace.{Trace}
-use Rattle.mapper_commands.specs.Endings.{IsCut}
+use Rattle.mapper_server.specs.Printing.{IsCut}
 use Rattle.mapper_commands.specs.Paging.{GoesOut, Puts}
 use Rattle.mapper_commands.specs.Plays.{played, replies_text, reply_text}
 use Rattle.mapper_commands.specs.Replays.{Found, end_line, end_text, entries_text, entry_text, found_at, found_text, placed_text}

@@ -1,23 +1,11 @@
 -- What is printed at an ending.
-use Rattle.std.proofs.Common.{◌≡◌, ◌⊎◌, ℕ, List, sym, subst, Result, Ok, Err, Option, inl, inr}
-use Rattle.mm_outside.specs.Causes.{HasCause}
-use Rattle.mm_outside.specs.Sending.{AppendsAll}
+use Rattle.std.proofs.Common.{◌≡◌, ◌⊎◌, ℕ, List, refl, sym, subst, Option, inl, inr, arith}
 use Rattle.mm_outside.specs.Told.{Told}
-use Rattle.mm_outside.proofs.ToldLemmas.{Told-map}
 use Rattle.mapper_commands.specs.declared.ending.Ending.{Ending}
 use Rattle.mapper_commands.specs.declared.ending.Ending.TheVariants as endings
-use Rattle.mapper_commands.specs.Endings.{Ended, OutOfMemory, Prints, RisesOnlyOver, Speaks, HasSinkCause, Output, Ends, Tells, message_of, status_of, told_by}
-
-module _ (T E : Type 0) where
-  prints : (result : Result T E) (text : List ℕ) (before now : ℕ) (old new : List ℕ) → HasCause before now result → AppendsAll result text old new → Prints text before now old new
-  prints (Ok u) text before now old new cause a = Prints.whole a cause.kept
-  prints (Err e) text before now old new cause a = Prints.cut (record { count = a.0; proper = a.1; appended = a.2 }) cause.failed
-
-  -- what was printed is the text, or a part of it where the count rose
-  pub told_prints : (result : Result T E) (text : List ℕ) (before now : ℕ) (a b : Option (List ℕ)) → HasCause before now result → Told (AppendsAll result text) a b → Told (Prints text before now) a b
-  told_prints result text before now a b cause = Told-map {R = AppendsAll result text} (λ x y p. prints result text before now x y cause p)
-
--- ---- endings
+use Rattle.mapper_server.specs.Printing.{Prints}
+use Rattle.mapper_commands.specs.Endings.{Ended, BadWords, OutOfMemory, CannotRead, FileTooLong, Refused, CannotOpen, Served, Reported, Cut, WriteFailed, RisesOnlyOver, Speaks, HasSinkCause, Output, Ends, Tells, message_of, status_of, told_by}
+use Rattle.mapper_commands.proofs.Statuses.{report_never}
 
 -- what is so of the ending may be told in another way
 pub ends_map : {P Q : Ended → Type 0} {output : Output} {status : ℕ} → ((ended : Ended) → P ended → Q ended) → Ends P output status → Ends Q output status
@@ -38,6 +26,7 @@ message_spoken endings.OutOfMemory before now x y told = told
 message_spoken (endings.CannotRead name) before now x y told = told
 message_spoken (endings.FileTooLong name) before now x y told = told
 message_spoken (endings.Refused name line reason) before now x y told = told
+message_spoken (endings.CannotOpen address) before now x y told = told
 message_spoken (endings.Served how) before now x y told = told
 
 message_caused : (ending : Ending) (before now : ℕ) → RisesOnlyOver (message_of (told_by ending)) before now → HasSinkCause (told_by ending) before now
@@ -46,6 +35,7 @@ message_caused endings.OutOfMemory before now cause = cause
 message_caused (endings.CannotRead name) before now cause = cause
 message_caused (endings.FileTooLong name) before now cause = cause
 message_caused (endings.Refused name line reason) before now cause = cause
+message_caused (endings.CannotOpen address) before now cause = cause
 message_caused (endings.Served how) before now cause = cause
 
 -- so a run ends whose message was printed
@@ -57,3 +47,16 @@ ends_told ending output is told cause so = record {
   cause = message_caused ending output.faults_before output.faults_now cause;
   so = so;
 }
+
+-- with status 6 a message is printed
+pub six_speaks : (ended : Ended) → status_of ended ≡ 6 → (b n : ℕ) (x y : Option (List ℕ)) → Told (Speaks ended b n) x y → Told (Prints (message_of ended) b n) x y
+six_speaks BadWords six b n x y told = told
+six_speaks OutOfMemory six b n x y told = told
+six_speaks (CannotRead named) six b n x y told = told
+six_speaks (FileTooLong named) six b n x y told = told
+six_speaks (Refused named line reason) six b n x y told = told
+six_speaks (CannotOpen address) six b n x y told = told
+six_speaks (Served how) six b n x y told = told
+six_speaks (Reported report) six b n x y told = absurd (report_never report (Reported report) 6 (inl refl) (λ e. omega (arith, e)) (λ e. omega (arith, e)) (λ e. omega (arith, e)) six)
+six_speaks (Cut report) six b n x y told = absurd (omega (arith, six))
+six_speaks WriteFailed six b n x y told = told

@@ -4,7 +4,7 @@ use Rattle.std.proofs.lemmas.List.{length-append, take-append-le}
 use Rattle.std.proofs.Math.Seq.{take-append-add}
 use Rattle.mm_outside.specs.declared.errors.Failed.{Failed}
 use Rattle.mm_outside.proofs.ToldLemmas.{Told-map, Told-then}
-use Rattle.mapper_commands.specs.Endings.{IsCut}
+use Rattle.mapper_server.specs.Printing.{IsCut}
 use Rattle.mapper_commands.specs.Paging.{GoesOut, Puts}
 
 goes_then : (one two h0 h1 h2 x y z : List ℕ) → GoesOut one h0 h1 x y → GoesOut two h1 h2 y z → GoesOut (one ++ two) h0 h2 x z

@@ -11,7 +11,7 @@ use Rattle.histories.specs.declared.illegal_reason.IllegalReason.{IllegalReason}
 use Rattle.histories.specs.Histories.{IsLegal, IsFirstFault}
 use Rattle.histories.proofs.Legality.{none_if_legal, some_if_illegal}
 use Rattle.trace_text.specs.declared.trace.Trace.{Trace}
-use Rattle.mapper_commands.specs.Endings.{Report, Ended, BadWords, OutOfMemory, CannotRead, FileTooLong, Refused, Served, Reported, Cut, WriteFailed, Output, Ends, Issues, Tells, status_of}
+use Rattle.mapper_commands.specs.Endings.{Report, Ended, BadWords, OutOfMemory, CannotRead, FileTooLong, Refused, CannotOpen, Served, Reported, Cut, WriteFailed, Output, Ends, Issues, Tells, status_of}
 use Rattle.mapper_commands.specs.FileReadings.{IsUnreadable}
 use Rattle.mapper_commands.specs.ProjectFiles.{FindsProject, IsOfFile}
 use Rattle.mapper_commands.specs.TraceFiles.{FindsTrace, IsTraceReadAs}
@@ -40,6 +40,7 @@ trace_since failed since later name (Err OutOfMemory) held h = h
 trace_since failed since later name (Err (CannotRead named)) held h = unreadable_since failed since later name held named h
 trace_since failed since later name (Err (FileTooLong named)) held h = h
 trace_since failed since later name (Err (Refused named line reason)) held h = h
+trace_since failed since later name (Err (CannotOpen address)) held h = h
 trace_since failed since later name (Err (Served how)) held h = h
 trace_since failed since later name (Err (Reported report)) held h = h
 trace_since failed since later name (Err (Cut report)) held h = h
@@ -64,6 +65,7 @@ module _ (failed late since : Type 0) (project_name trace_name : List ℕ) (a b 
   second_refused later project (CannotRead named) kind first second = Refuses.trace_refused project (project_first project (Err (CannotRead named)) first second) (trace_second later project (Err (CannotRead named)) first second)
   second_refused later project (FileTooLong named) kind first second = Refuses.trace_refused project (project_first project (Err (FileTooLong named)) first second) (trace_second later project (Err (FileTooLong named)) first second)
   second_refused later project (Refused named line reason) kind first second = Refuses.trace_refused project (project_first project (Err (Refused named line reason)) first second) (trace_second later project (Err (Refused named line reason)) first second)
+  second_refused later project (CannotOpen address) kind first second = absurd kind
   second_refused later project (Served how) kind first second = absurd kind
   second_refused later project (Reported report) kind first second = absurd kind
   second_refused later project (Cut report) kind first second = absurd kind
@@ -88,6 +90,7 @@ module _ (failed : Type 0) (a b : Option Lookup) (project_name trace_name : List
   not_found (CannotRead named) kind found = ReportsSo.refused kind found
   not_found (FileTooLong named) kind found = ReportsSo.refused kind found
   not_found (Refused named line reason) kind found = ReportsSo.refused kind found
+  not_found (CannotOpen address) kind found = absurd kind
   not_found (Served how) kind found = absurd kind
   not_found (Reported report) kind found = absurd kind
   not_found (Cut report) kind found = absurd kind

@@ -3,7 +3,7 @@ use Rattle.std.proofs.Common.{◌≡◌, ◌≢◌, ◌⊎◌, inl, inr, ℕ, �
 use Rattle.std.specs.Prelude.{if◌then◌else◌}
 use Rattle.mm_outside.specs.Causes.{Rose}
 use Rattle.connection_core.specs.declared.conn_end.ConnEnd.TheVariants.{Closed, Truncated, ReadFault, WriteFault, TooLong, BatchTooLong, HistoryFull}
-use Rattle.mapper_commands.specs.Endings.{Report, Ended, BadWords, OutOfMemory, CannotRead, FileTooLong, Refused, Served, Reported, Cut, WriteFailed, EndsIn, HasSinkCause, Output, Ends, Tells, status_of}
+use Rattle.mapper_commands.specs.Endings.{Report, Ended, BadWords, OutOfMemory, CannotRead, FileTooLong, Refused, CannotOpen, Served, Reported, Cut, WriteFailed, EndsIn, HasSinkCause, Output, Ends, Tells, status_of}
 use Rattle.mapper_commands.specs.ProjectFiles.{IsOfFile, KeepsReads, none_failed, at_file, for_memory}
 
 -- one number isn't two
@@ -65,6 +65,7 @@ of_file OutOfMemory kind = inl refl
 of_file (CannotRead named) kind = inr (inl refl)
 of_file (FileTooLong named) kind = inr (inr refl)
 of_file (Refused named line reason) kind = inr (inr refl)
+of_file (CannotOpen address) kind = absurd kind
 of_file (Served how) kind = absurd kind
 of_file (Reported report) kind = absurd kind
 of_file (Cut report) kind = absurd kind
@@ -86,6 +87,7 @@ file_four OutOfMemory kind four = absurd (omega (arith, four))
 file_four (CannotRead named) kind four = (named, refl)
 file_four (FileTooLong named) kind four = absurd (omega (arith, four))
 file_four (Refused named line reason) kind four = absurd (omega (arith, four))
+file_four (CannotOpen address) kind four = absurd kind
 file_four (Served how) kind four = absurd kind
 file_four (Reported report) kind four = absurd kind
 file_four (Cut report) kind four = absurd kind
@@ -120,6 +122,7 @@ sink_well OutOfMemory b n cause done = absurd (omega (arith, done))
 sink_well (CannotRead named) b n cause done = absurd (omega (arith, done))
 sink_well (FileTooLong named) b n cause done = absurd (omega (arith, done))
 sink_well (Refused named line reason) b n cause done = absurd (omega (arith, done))
+sink_well (CannotOpen address) b n cause done = absurd (omega (arith, done))
 sink_well (Served Closed) b n (inl kept) done = kept
 sink_well (Served Closed) b n (inr rose) done = absurd (omega (arith, rose.0))
 sink_well (Served (Truncated lines)) b n cause done = absurd (omega (arith, done))

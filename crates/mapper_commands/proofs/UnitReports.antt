@@ -12,12 +12,12 @@ use Rattle.export_lists.specs.declared.cmi.Cmi.{Cmi}
 use Rattle.export_lists.specs.CmiFaults.{IsCmiText}
 use Rattle.export_lists.proofs.CmiLaws.{no_fault, one_cmi}
 use Rattle.mapper_commands.specs.Commands.{ListUnits, AsksFor}
-use Rattle.mapper_commands.specs.Endings.{Ended, BadWords, OutOfMemory, CannotRead, FileTooLong, Refused, Served, Reported, Cut, WriteFailed, HasSinkCause, status_of}
+use Rattle.mapper_commands.specs.Endings.{Ended, BadWords, OutOfMemory, CannotRead, FileTooLong, Refused, CannotOpen, Served, Reported, Cut, WriteFailed, HasSinkCause, status_of}
 use Rattle.mapper_commands.specs.ProjectFiles.{DeclaresProject, IsReadAs}
 use Rattle.mapper_commands.specs.FileReadings.{Stay}
 use Rattle.mapper_commands.specs.ListRuns.{HoldsWithin, HoldUnits, HoldsAll, IsNoCmiOf, StopsAt, ListsSo, reported, refused, no_memory, unreadable, too_long, RefusesList, RefusesUnit, as_file, as_cmi, not_a_cmi, other_unit, file_by, most_by, unit_file, most_cmi_octets}
 use Rattle.mapper_commands.specs.Running.{LacksFile}
-use Rattle.mapper_commands.proofs.Complete.{same_project}
+use Rattle.mapper_commands.proofs.FileLemmas.{same_project}
 use Rattle.mapper_commands.proofs.FileLemmas.{beyond, project_taken, same_some}
 use Rattle.mapper_commands.proofs.Statuses.{differ, file_never, report_cut, report_never, report_whole}
 
@@ -45,6 +45,7 @@ module _ (failed : Type 0) (before now : Option Lookup) (name : List ℕ) where
   no_project (CannotRead named) content four read = read.cause
   no_project (FileTooLong named) content four read = absurd (omega (arith, four))
   no_project (Refused named line reason) content four read = absurd (omega (arith, four))
+  no_project (CannotOpen address) content four read = absurd read
   no_project (Served how) content four read = absurd read
   no_project (Reported report) content four read = absurd read
   no_project (Cut report) content four read = absurd read

@@ -17,6 +17,10 @@ usual_entries = 65536
 abbrev pub most_units : ℕ
 most_units = 2000
 
+-- the most links that a hall of `serve` gives
+abbrev pub most_links : ℕ
+most_links = 65536
+
 -- the greatest seed
 abbrev pub greatest_seed : ℕ
 greatest_seed = 2147483647

@@ -1,10 +1,12 @@
 -- The commands, as words of the command line.
 use Rattle.std.specs.Prelude.{◌≡◌, ℕ, true, List, [], ◌∷◌, map, String, string_bytes, codes}
 use Rattle.std.specs.declared.alloc.Global.{Global}
-use Rattle.mapper_commands.specs.Askings.{IsNumberWithin, greatest_seed, is_folder, most_units, usual_entries}
-use Rattle.mapper_server.specs.Limits.{fewest_entries, most_entries}
+use Rattle.mapper_server.specs.Limits.{fewest_entries, most_entries, most_halls}
+use Rattle.mapper_commands.specs.Addresses.{IsAddress}
+use Rattle.mapper_commands.specs.Askings.{IsNumberWithin, greatest_seed, is_folder, most_links, most_units, usual_entries}
 use Rattle.mapper_commands.specs.declared.command.Command.{Command}
 use Rattle.mapper_commands.specs.declared.command.Command.TheVariants as command
+use Rattle.mapper_commands.specs.declared.serve_words.ServeCommand.{ServeCommand}
 use Rattle.mapper_commands.specs.declared.verb.Verb.{Verb}
 use Rattle.mapper_commands.specs.declared.verb.Verb.TheVariants as verb
 
@@ -87,3 +89,38 @@ AsksNothing words = (task : Task) → AsksFor (map string_bytes words) task → 
 -- the first word is `pipe`
 abbrev pub BeginsWithPipe : List (String Global) → Type 0
 BeginsWithPipe words = (rest : List (List ℕ)) × (map string_bytes words ≡ codes "pipe" ∷ rest)
+
+-- ---- serving many connections
+
+-- what the words of `serve` ask for: the project file, the address of the halls, how many workers serve, the most links
+-- that the hall of each gives, and the most entries of their history
+pub record ServeWords : Type 0 where
+  pub project : List ℕ
+  pub address : List ℕ
+  pub workers : ℕ
+  pub links : ℕ
+  pub entries : ℕ
+
+-- what a command asks for, its texts as lists of octets
+abbrev pub serve_words : ServeCommand → ServeWords
+serve_words command = record { project = command.project.now; address = command.address.now; workers = command.workers; links = command.links; entries = command.entries }
+
+-- the words are `serve PROJECT ADDRESS WORKERS LINKS ENTRIES` and ask for this, with WORKERS from 1 to 64, LINKS from 1 to
+-- 65,536 and ENTRIES from WORKERS to 1,048,576
+pub record AsksToServe (words : List (List ℕ)) (serve : ServeWords) : Type 0 where
+  pub workers_word : List ℕ
+  pub links_word : List ℕ
+  pub entries_word : List ℕ
+  pub words_are : words ≡ codes "serve" ∷ serve.project ∷ serve.address ∷ workers_word ∷ links_word ∷ entries_word ∷ []
+  pub address_is : IsAddress serve.address
+  pub workers_are : IsNumberWithin 1 most_halls workers_word serve.workers
+  pub links_are : IsNumberWithin 1 most_links links_word serve.links
+  pub entries_are : IsNumberWithin serve.workers most_entries entries_word serve.entries
+
+-- the words aren't of that form
+abbrev pub AsksNotToServe : List (String Global) → Type 0
+AsksNotToServe words = (serve : ServeWords) → AsksToServe (map string_bytes words) serve → ⊥
+
+-- the first word is `serve`
+abbrev pub BeginsWithServe : List (String Global) → Type 0
+BeginsWithServe words = (rest : List (List ℕ)) × (map string_bytes words ≡ codes "serve" ∷ rest)

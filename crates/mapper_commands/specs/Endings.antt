@@ -1,11 +1,12 @@
 -- The statuses and messages that the program ends with.
-use Rattle.std.specs.Prelude.{◌≡◌, ℕ, ◌+◌, ◌<◌, Bool, if◌then◌else◌, List, [], ◌++◌, take, length, Option, codes, decimal, ◌⊎◌}
+use Rattle.std.specs.Prelude.{◌≡◌, ℕ, ◌+◌, ◌<◌, Bool, if◌then◌else◌, List, [], ◌++◌, length, Option, codes, decimal, ◌⊎◌}
 use Rattle.mm_outside.specs.Causes.{Rose}
 use Rattle.mm_outside.specs.Told.{Told}
 use Rattle.cody_words.specs.Canonical.{quote, word_room}
 use Rattle.connection_core.specs.declared.conn_end.ConnEnd.{ConnEnd}
 use Rattle.connection_core.specs.declared.conn_end.ConnEnd.TheVariants.{Closed, Truncated, ReadFault, WriteFault, TooLong, BatchTooLong, HistoryFull}
 use Rattle.connection_core.specs.Ends.{status_of as conn_status}
+use Rattle.mapper_server.specs.Printing.{IsCut, Prints}
 use Rattle.mapper_commands.specs.declared.ending.Ending.{Ending}
 use Rattle.mapper_commands.specs.declared.ending.Ending.TheVariants as ending
 
@@ -15,13 +16,14 @@ pub record Report : Type 0 where
   pub good : Bool
 
 -- how a run of the program ends: by a message, by a report that was printed whole, or by one that was cut short;
--- `WriteFailed` says that a file couldn't be written
+-- `CannotOpen` says that no hall was given at an address, `WriteFailed` that a file couldn't be written
 pub data Ended : Type 0 where
   BadWords : Ended
   OutOfMemory : Ended
   CannotRead : (name : List ℕ) → Ended
   FileTooLong : (name : List ℕ) → Ended
   Refused : (name : List ℕ) → (line : ℕ) → (reason : List ℕ) → Ended
+  CannotOpen : (address : List ℕ) → Ended
   Served : (how : ConnEnd) → Ended
   Reported : (report : Report) → Ended
   Cut : (report : Report) → Ended
@@ -34,6 +36,7 @@ told_by ending.OutOfMemory = OutOfMemory
 told_by (ending.CannotRead name) = CannotRead name.now
 told_by (ending.FileTooLong name) = FileTooLong name.now
 told_by (ending.Refused name line reason) = Refused name.now line reason.now
+told_by (ending.CannotOpen address) = CannotOpen address.now
 told_by (ending.Served how) = Served how
 
 -- the status of an ending
@@ -43,6 +46,7 @@ status_of OutOfMemory = 3
 status_of (CannotRead name) = 4
 status_of (FileTooLong name) = 6
 status_of (Refused name line reason) = 6
+status_of (CannotOpen address) = 4
 status_of (Served how) = conn_status how
 status_of (Reported report) = if report.good then 0 else 1
 status_of (Cut report) = 5
@@ -74,6 +78,10 @@ too_long_text name = codes "modmap: " ++ quote name ++ codes ": file too long\n"
 abbrev pub refused_text : List ℕ → ℕ → List ℕ → List ℕ
 refused_text name line reason = codes "modmap: " ++ quote name ++ codes ":" ++ decimal line ++ codes ": " ++ reason ++ codes "\n"
 
+-- what is said of an address at which no hall was given; it is written as the words spell it
+abbrev pub cannot_open_text : List ℕ → List ℕ
+cannot_open_text address = codes "modmap: cannot open " ++ address ++ codes "\n"
+
 -- the message of an ending, a line; there is none where all was done, nor behind a report
 abbrev pub message_of : Ended → List ℕ
 message_of BadWords = codes "modmap: bad words\n"
@@ -81,6 +89,7 @@ message_of OutOfMemory = codes "modmap: out of memory\n"
 message_of (CannotRead name) = cannot_read_text name
 message_of (FileTooLong name) = too_long_text name
 message_of (Refused name line reason) = refused_text name line reason
+message_of (CannotOpen address) = cannot_open_text address
 message_of (Served how) = conn_message how
 message_of (Reported report) = []
 message_of (Cut report) = []
@@ -108,22 +117,11 @@ message_room OutOfMemory = frame_room
 message_room (CannotRead name) = word_room name + frame_room
 message_room (FileTooLong name) = word_room name + frame_room
 message_room (Refused name line reason) = word_room name + length reason + frame_room
+message_room (CannotOpen address) = word_room address + frame_room
 message_room (Served how) = frame_room
 message_room (Reported report) = frame_room
 message_room (Cut report) = frame_room
 message_room WriteFailed = frame_room
-
--- a proper part of the text was appended
-pub record IsCut (text : List ℕ) (old new : List ℕ) : Type 0 where
-  pub count : ℕ
-  pub proper : count < length text
-  pub appended : new ≡ old ++ take count text
-
--- A text was appended whole, and the count of faults is as it was; or a proper part of it, and the count rose. So a
--- text is never made whole behind a fault.
-pub data Prints (text : List ℕ) (faults_before faults_now : ℕ) (old new : List ℕ) : Type 0 where
-  whole : new ≡ old ++ text → faults_now ≡ faults_before → Prints text faults_before faults_now old new
-  cut : IsCut text old new → Rose faults_before faults_now → Prints text faults_before faults_now old new
 
 -- What is printed at an ending: the whole report, or a proper part of one; else the message, or a proper part of it
 -- where a write failed.

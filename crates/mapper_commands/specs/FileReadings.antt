@@ -2,7 +2,7 @@
 -- text is refused.
 use Rattle.std.specs.Prelude.{◌≡◌, ℕ, ◌≤◌, ◌<◌, ◌⊎◌, List, length, Option, Some, None, Result, Ok, Err}
 use Rattle.mm_outside.specs.Files.{Lookup}
-use Rattle.mapper_commands.specs.Endings.{Ended, BadWords, OutOfMemory, CannotRead, FileTooLong, Refused, Served, Reported, Cut, WriteFailed}
+use Rattle.mapper_commands.specs.Endings.{Ended, BadWords, OutOfMemory, CannotRead, FileTooLong, Refused, CannotOpen, Served, Reported, Cut, WriteFailed}
 
 -- the file holds a text within the limit that says this
 pub record Holds {A : Type 0} (most : ℕ) (Says : List ℕ → A → Type 0) (held : Option (List ℕ)) (value : A) : Type 0 where
@@ -41,6 +41,7 @@ module _ {A : Type 0} (most : ℕ) (Says : List ℕ → A → Type 0) (Refuses :
   IsFileReadAs (Err (CannotRead named)) held = IsUnreadable failed name held named
   IsFileReadAs (Err (FileTooLong named)) held = IsTooLong most name held named
   IsFileReadAs (Err (Refused named line reason)) held = IsRefused most Refuses name held named line reason
+  IsFileReadAs (Err (CannotOpen address)) held = ⊥
   IsFileReadAs (Err (Served how)) held = ⊥
   IsFileReadAs (Err (Reported report)) held = ⊥
   IsFileReadAs (Err (Cut report)) held = ⊥

@@ -12,3 +12,6 @@ pub mod Generating
 pub mod Askings
 pub mod ListRuns
 pub mod Meanings
+pub mod Addresses
+pub mod Hosting
+pub mod HostSteps

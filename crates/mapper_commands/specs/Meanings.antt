@@ -13,7 +13,8 @@ use Rattle.export_lists.specs.declared.outcome.Outcome.{Outcome}
 use Rattle.export_lists.specs.Listings.{IsListing}
 use Rattle.trace_text.specs.declared.trace.Trace.{Trace}
 use Rattle.mapper_commands.specs.Commands.{Task, Pipe, Check, Replay, ListUnits, Generate, AsksFor}
-use Rattle.mapper_commands.specs.Endings.{Ended, Output, Prints, Report, message_of, status_of}
+use Rattle.mapper_server.specs.Printing.{Prints}
+use Rattle.mapper_commands.specs.Endings.{Ended, Output, Report, message_of, status_of}
 use Rattle.mapper_commands.specs.ListRuns.{HoldsProject, RefusesList, list_report}
 use Rattle.mapper_commands.specs.ProjectFiles.{DeclaresProject, IsReadAs}
 use Rattle.mapper_commands.specs.Reports.{check_report}

@@ -2,7 +2,7 @@
 use Rattle.std.specs.Prelude.{◌≡◌, ℕ, List, ◌++◌, Option, Result, Ok, Err}
 use Rattle.mm_outside.specs.declared.errors.Failed.{Failed}
 use Rattle.mm_outside.specs.Told.{Told}
-use Rattle.mapper_commands.specs.Endings.{IsCut}
+use Rattle.mapper_server.specs.Printing.{IsCut}
 
 -- what was held before and the text behind it were written, but for what is held now
 pub record GoesOut (text held_before held_now : List ℕ) (old new : List ℕ) : Type 0 where

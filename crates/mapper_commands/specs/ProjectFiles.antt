@@ -7,7 +7,7 @@ use Rattle.unit_registry.specs.Reasons.{reason_text}
 use Rattle.mm_outside.specs.Files.{Lookup}
 use Rattle.mapper_commands.specs.declared.ending.Ending.{Ending}
 use Rattle.mapper_commands.specs.FileReadings.{Holds, IsFileReadAs, Stay}
-use Rattle.mapper_commands.specs.Endings.{Ended, told_by, BadWords, OutOfMemory, CannotRead, FileTooLong, Refused, Served, Reported, Cut, WriteFailed}
+use Rattle.mapper_commands.specs.Endings.{Ended, told_by, BadWords, OutOfMemory, CannotRead, FileTooLong, Refused, CannotOpen, Served, Reported, Cut, WriteFailed}
 
 -- the most octets that a project file may have
 abbrev pub most_project_octets : ℕ
@@ -43,6 +43,7 @@ IsOfFile OutOfMemory = Unit {0}
 IsOfFile (CannotRead named) = Unit {0}
 IsOfFile (FileTooLong named) = Unit {0}
 IsOfFile (Refused named line reason) = Unit {0}
+IsOfFile (CannotOpen address) = ⊥
 IsOfFile (Served how) = ⊥
 IsOfFile (Reported report) = ⊥
 IsOfFile (Cut report) = ⊥

@@ -35,6 +35,11 @@ pub enum Ending<'a> {
         /// Why the line is at fault, in plain words.
         reason: &'a [u8],
     },
+    /// No hall was given at an address.
+    CannotOpen {
+        /// The address, as the words spell it.
+        address: &'a [u8],
+    },
     /// The link was served to this end.
     Served(ConnEnd),
 }
@@ -49,7 +54,7 @@ impl Ending<'_> {
         match self {
             Ending::BadWords => 2,
             Ending::OutOfMemory => 3,
-            Ending::CannotRead { .. } => 4,
+            Ending::CannotRead { .. } | Ending::CannotOpen { .. } => 4,
             Ending::FileTooLong { .. } | Ending::Refused { .. } => 6,
             Ending::Served(end) => conn_status(end),
         }
@@ -71,6 +76,12 @@ impl Ending<'_> {
                 out,
             ),
             Ending::Refused { name, line, reason } => write_refused(name, line, reason, out),
+            Ending::CannotOpen { address } => write_between(
+                b"modmap: cannot open ",
+                address,
+                b"\n",
+                out,
+            ),
             Ending::Served(end) => write_conn_message(end, out),
         }
     }
@@ -138,4 +149,14 @@ fn write_refused(name: &[u8], line: u32, reason: &[u8], out: &mut LineBuf)
     out.extend(b": ");
     out.extend(reason);
     out.extend(b"\n");
+}
+
+/// Appends a text between two others.
+fn write_between(before: &[u8], text: &[u8], behind: &[u8], out: &mut LineBuf)
+    requires { length before.now + length text.now + length behind.now ≤ out.old.spare }
+    ensures { Appends out.old out.new (before.now ++ text.now ++ behind.now) }
+{
+    out.extend(before);
+    out.extend(text);
+    out.extend(behind);
 }

@@ -3,7 +3,8 @@
 ghost use Rattle.std.specs.Prelude.{◌≡◌, ◌≤◌, ◌<◌, ◌+◌, ◌↔◌, [], length, IfOk, IsTrue};
 ghost use Rattle.mm_outside.specs.Told.{Told};
 ghost use Rattle.cody_words.specs.Canonical.{word_room};
-ghost use Rattle.mapper_commands.specs.Endings.{OutOfMemory, frame_room, longest_name, longest_reason, message_room, output_of, reason_room, told_by, Issues, Prints, RisesOnlyOver, Tells};
+ghost use Rattle.mapper_server.specs.Printing.{Prints};
+ghost use Rattle.mapper_commands.specs.Endings.{OutOfMemory, frame_room, longest_name, longest_reason, message_room, output_of, reason_room, told_by, Issues, RisesOnlyOver, Tells};
 
 use crate::ending::Ending;
 use cody_words::LineBuf;
@@ -73,9 +74,9 @@ fn ending_buffer(alloc: Global, ending: Ending<'_>) -> Result<LineBuf, Memory>
     ensures { IfOk result (λ buffer. (buffer.octets ≡ []) × (message_room (told_by ending.entry) ≤ buffer.spare)) }
 {
     match ending {
-        Ending::CannotRead { name } | Ending::FileTooLong { name } => {
-            framed_buffer(alloc, name, 0)
-        }
+        Ending::CannotRead { name }
+        | Ending::FileTooLong { name }
+        | Ending::CannotOpen { address: name } => framed_buffer(alloc, name, 0),
         Ending::Refused { name, reason, .. } => framed_buffer(alloc, name, reason.len()),
         Ending::BadWords | Ending::OutOfMemory | Ending::Served(_) => {
             framed_buffer(alloc, b"", 0)

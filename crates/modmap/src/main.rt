@@ -1,5 +1,6 @@
-//! A C++20 module mapper server over the libcody protocol. Today it serves one link, over standard input and output,
-//! checks and replays traces, compiles the units of a project one by one with a report, and generates projects.
+//! A C++20 module mapper server over the libcody protocol. It serves one link, over standard input and output, or many at
+//! once, over sockets; checks and replays traces, compiles the units of a project one by one with a report, and generates
+//! projects.
 #![tactic(auto)]
 
 ghost use Rattle.std.specs.Prelude.{◌≡◌, ◌≢◌, ◌↔◌, IfOk, IsTrue, drop};
@@ -18,7 +19,8 @@ mod tests;
 
 use adapters::{Pipe, WriterSink};
 use disk::DiskFiles;
-use mapper_commands::{Ending, run_alone, tell};
+use mapper_commands::{Ending, is_shared, run_alone, run_shared, tell};
+use sockets::SocketHouse;
 use std::alloc::{AllocError, Global};
 use std::env;
 use std::io::{self, ErrorKind};
@@ -82,7 +84,11 @@ fn main(rt: HostRuntime) -> ExitCode {
     };
     let mut files = DiskFiles::new(&rt, rt.alloc());
     let mut link = Pipe::new(rt.stdin(), rt.stdout());
-    let status = if begins_with_pipe(&words) {
+    let status = if is_shared(&words) {
+        let mut house = SocketHouse::new(rt, rt.alloc());
+        let mut out = WriterSink::new(rt.stdout());
+        run_shared(&rt, rt.alloc(), &words, &mut files, &mut house, &mut out)
+    } else if begins_with_pipe(&words) {
         let mut out = WriterSink::new(rt.stderr());
         run_alone(&rt, rt.alloc(), &words, &mut files, &mut link, &mut out)
     } else {

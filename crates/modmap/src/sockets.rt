@@ -1,10 +1,9 @@
 //! Halls and links over the sockets of the machine, Unix and TCP. They tell no content: which octets a socket gives
 //! and takes is outside every clause.
 //!
-//! An address is `unix:PATH` or `tcp:HOST:PORT`. All halls of one `bind` accept from one listener, and each gives at
+//! An address is that of `mapper_commands`. All halls of one `bind` accept from one listener, and each gives at
 //! most as many links as it was asked for. A write to a peer that is gone fails, and raises no signal.
 
-mod address;
 mod hall;
 mod house;
 mod link;
@@ -13,7 +12,6 @@ mod opening;
 #[cfg(test)]
 mod tests;
 
-pub use address::Address;
 pub use hall::SocketHall;
 pub use house::SocketHouse;
 pub use link::SocketLink;

@@ -1,6 +1,6 @@
 use Rattle.std.proofs.Common.{arith}
 use Rattle.std.specs.Prelude.{string_bytes, codes}
-use Rattle.modmap.proofs.WordLemmas.{first_word}
+use Rattle.mapper_commands.proofs.WordLemmas.{first_word}
 use Rattle.modmap.proofs.begins_with_pipe.Goals as goal
 
 pub returns-in-len1-up : goal.returns-in-len1-up

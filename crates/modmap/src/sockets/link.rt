@@ -1,12 +1,15 @@
 //! One connection over a socket.
 
-use super::address::Address;
 use crate::streams::{read_some, write_some};
+use mapper_commands::Address;
 use mm_outside::{Failed, Link};
 use std::io::{Read, Write};
 use std::net::{Net, TcpListener, TcpStream};
 use std::os::unix::net::UnixStream;
 use std::{io, str};
+
+#[cfg(test)]
+mod tests;
 
 /// A connected socket.
 #[derive(Drop)]

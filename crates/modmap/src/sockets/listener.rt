@@ -1,7 +1,7 @@
 //! A listening socket, and the file of a Unix one.
 
-use super::address::Address;
 use super::link::Stream;
+use mapper_commands::Address;
 use std::fs::Files;
 use std::net::{Net, TcpListener, TcpStream};
 use std::os::unix::fs::MetadataExt;

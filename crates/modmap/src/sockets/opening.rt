@@ -3,10 +3,10 @@
 ghost use Rattle.std.specs.Prelude.{◌≡◌, All, IfOk, vec_len};
 ghost use Rattle.modmap.specs.Sockets.{IsReady};
 
-use super::address::Address;
 use super::hall::SocketHall;
 use super::link::{SocketLink, Stream};
 use super::listener::{Listener, SocketFile};
+use mapper_commands::Address;
 use mm_outside::HouseError;
 use std::alloc::Global;
 use std::fs::Files;

@@ -2,7 +2,7 @@ ghost use Rattle.std.specs.Prelude.{◌<◌, length};
 
 use super::hall::SocketHall;
 use super::listener::Listener;
-use super::{Address, SocketHouse, SocketLink};
+use super::{SocketHouse, SocketLink};
 use mm_outside::{Accepted, Failed, Hall, House, HouseError, Link};
 use std::net::TcpListener;
 use std::os::unix::net::UnixListener;
@@ -22,7 +22,7 @@ fn fresh(rt: &HostRuntime, name: &str) -> Result<(String, String), Fail> {
 }
 
 /// A TCP address at which nothing listens.
-fn free_port(rt: &HostRuntime) -> Result<String, Fail> {
+pub(super) fn free_port(rt: &HostRuntime) -> Result<String, Fail> {
     let listener = TcpListener::bind(rt, "127.0.0.1:0")?;
     let port = listener.local_addr()?.port();
     Ok(format!(in rt.alloc(); "tcp:127.0.0.1:{port}")?)
@@ -154,6 +154,21 @@ fn what_stands_at_the_address_stays(rt: HostRuntime) -> Result<(), Fail> {
 }
 
 #[test]
+fn another_file_at_the_address_stays(rt: HostRuntime) -> Result<(), Fail> {
+    let (folder, address) = fresh(&rt, "modmap-sockets-other")?;
+    let file = format!(in rt.alloc(); "{folder}/s")?;
+    let other = format!(in rt.alloc(); "{folder}/other")?;
+    let mut house = SocketHouse::new(rt, rt.alloc());
+    let halls = house.bind(address.as_bytes(), 2, 1)?;
+    fs::write(&rt, other.as_str(), b"kept")?;
+    fs::rename(&rt, other.as_str(), file.as_str())?;
+    house.take_back(halls);
+    assert_eq!(rt; fs::metadata(&rt, file.as_str())?.len(), 4);
+    fs::remove_dir_all(&rt, folder.as_str())?;
+    Ok(())
+}
+
+#[test]
 fn an_accept_waits_and_is_tried_again(rt: HostRuntime) -> Result<(), Fail> {
     let (folder, address) = fresh(&rt, "modmap-sockets-tries")?;
     let file = format!(in rt.alloc(); "{folder}/s")?;
@@ -174,34 +189,4 @@ fn an_accept_waits_and_is_tried_again(rt: HostRuntime) -> Result<(), Fail> {
     assert!(rt; matches!(accepted, Accepted::Link(_)));
     fs::remove_dir_all(&rt, folder.as_str())?;
     Ok(())
-}
-
-/// The address that a text spells, as its host or path and its port, 0 for a Unix socket.
-fn read(text: &[u8]) -> Option<(&[u8], u16)> {
-    match Address::read(text)? {
-        Address::Unix(path) => Some((path, 0)),
-        Address::Tcp(host, port) => Some((host, port)),
-    }
-}
-
-#[test]
-fn addresses(rt: HostRuntime) {
-    assert!(rt; read(b"unix:s") == Some((b"s", 0)));
-    assert!(rt; read(b"unix:tcp:h:1") == Some((b"tcp:h:1", 0)));
-    assert!(rt; read(b"tcp:localhost:65535") == Some((b"localhost", 65_535)));
-    assert!(rt; read(b"tcp:::1:5000") == Some((b"::1", 5_000)));
-    let bad: [&[u8]; 9] = [
-        b"",
-        b"s",
-        b"unix:",
-        b"tcp:h",
-        b"tcp::1",
-        b"tcp:h:",
-        b"tcp:h:0",
-        b"tcp:h:080",
-        b"tcp:h:65536",
-    ];
-    for text in bad {
-        assert!(rt; read(text).is_none());
-    }
 }

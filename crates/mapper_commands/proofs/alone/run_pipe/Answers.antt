@@ -1,7 +1,8 @@
 use Rattle.std.proofs.Common.{◌≡◌, refl, rules, subst}
 use Rattle.mm_outside.specs.Told.{Told}
 use Rattle.mm_outside.proofs.ToldLemmas.{Told-same}
-use Rattle.mapper_commands.specs.Endings.{OutOfMemory, Prints, RisesOnlyOver, message_of, told_by}
+use Rattle.mapper_server.specs.Printing.{Prints}
+use Rattle.mapper_commands.specs.Endings.{OutOfMemory, RisesOnlyOver, message_of, told_by}
 use Rattle.mapper_commands.specs.Running.{no_memory}
 use Rattle.mapper_commands.proofs.PrintLemmas.{ends_as, ends_told}
 use Rattle.mapper_commands.proofs.alone.run_pipe.Goals as goal

@@ -1,5 +1,5 @@
 use Rattle.mm_outside.specs.declared.errors.Failed.{Failed}
-use Rattle.mapper_commands.proofs.PrintLemmas.{told_prints}
+use Rattle.mapper_server.proofs.Printed.{told_prints}
 use Rattle.mapper_commands.proofs.telling.print_some.Goals as goal
 
 pub returns-clause-written : goal.returns-clause-written

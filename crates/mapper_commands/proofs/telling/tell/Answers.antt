@@ -1,6 +1,7 @@
 use Rattle.std.proofs.Common.{◌≡◌, inl, inr, refl, rules, subst}
 use Rattle.mm_outside.specs.Told.{Told}
-use Rattle.mapper_commands.specs.Endings.{OutOfMemory, Prints, RisesOnlyOver, message_of, told_by}
+use Rattle.mapper_server.specs.Printing.{Prints}
+use Rattle.mapper_commands.specs.Endings.{OutOfMemory, RisesOnlyOver, message_of, told_by}
 use Rattle.mapper_commands.proofs.PrintLemmas.{ends_as, ends_told}
 use Rattle.mapper_commands.proofs.telling.tell.Goals as goal
 

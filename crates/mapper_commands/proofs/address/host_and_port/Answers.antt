@@ -1,8 +1,8 @@
 use Rattle.std.proofs.Common.{ℕ, List, sym, subst}
 use Rattle.std.specs.Prelude.{MatchOption}
-use Rattle.modmap.specs.Addresses.{SpellsPort}
-use Rattle.modmap.proofs.Colons.{no_digits}
-use Rattle.modmap.proofs.sockets.address.host_and_port.Goals as goal
+use Rattle.mapper_commands.specs.Addresses.{SpellsPort}
+use Rattle.mapper_commands.proofs.Colons.{no_digits}
+use Rattle.mapper_commands.proofs.address.host_and_port.Goals as goal
 
 pub returns-in_err-port : goal.returns-in_err-port
 returns-in_err-port c =

@@ -3,7 +3,7 @@ use Rattle.std.proofs.Common.{◌≡◌, ◌≢◌, ◌<◌, ◌^◌, ℕ, ◌+�
 use Rattle.std.specs.Prelude.{codes, decimal}
 use Rattle.std.proofs.lemmas.Fmt.{decimal_by_steps, decimal_injective}
 use Rattle.std.proofs.lemmas.List.Elements.{All-append, All-cons, All-nil, All-head, All-tail}
-use Rattle.modmap.specs.Addresses.{IsPort, Lacks, SpellsPort}
+use Rattle.mapper_commands.specs.Addresses.{IsPort, Lacks, SpellsPort}
 
 -- no digit is a colon
 one_lacks : (digit : ℕ) → digit < 10 → Lacks 58 ((48 + digit) ∷ [])

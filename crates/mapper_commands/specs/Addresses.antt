@@ -1,7 +1,7 @@
 -- What spells the address of a socket.
 use Rattle.std.specs.Prelude.{◌≡◌, ◌≢◌, ℕ, ◌≤◌, List, [], ◌++◌, codes, decimal, All}
-use Rattle.modmap.specs.declared.sockets.address.Address.{Address}
-use Rattle.modmap.specs.declared.sockets.address.Address.TheVariants.{Unix, Tcp}
+use Rattle.mapper_commands.specs.declared.address.Address.{Address}
+use Rattle.mapper_commands.specs.declared.address.Address.TheVariants.{Unix, Tcp}
 
 -- the octet stands nowhere in the text
 abbrev pub Lacks : ℕ → List ℕ → Type 0
@@ -27,6 +27,11 @@ pub record SpellsPort (text host : List ℕ) (port : ℕ) : Type 0 where
 abbrev pub Spells : List ℕ → Address → Type 0
 Spells text (Unix path) = SpellsPath text path.now
 Spells text (Tcp host port) = SpellsPort text host.now port
+
+-- the text spells an address
+pub data IsAddress (text : List ℕ) : Type 0 where
+  unix : (path : List ℕ) → SpellsPath text path → IsAddress text
+  tcp : (host : List ℕ) (port : ℕ) → SpellsPort text host port → IsAddress text
 
 -- the text spells no address
 pub record SpellsNone (text : List ℕ) : Type 0 where

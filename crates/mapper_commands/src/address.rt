@@ -1,7 +1,7 @@
 //! Where a socket is.
 
 ghost use Rattle.std.specs.Prelude.{◌≡◌, ◌≢◌, ◌++◌, ◌∷◌, ℕ, List, None, MatchOption, IfSome, IsTrue, ◌↔◌, codes, decimal};
-ghost use Rattle.modmap.specs.Addresses.{IsPort, Lacks, SpellsPath, SpellsPort};
+ghost use Rattle.mapper_commands.specs.Addresses.{IsAddress, IsPort, Lacks, SpellsPath, SpellsPort};
 
 use mapper_requests::read_decimal;
 use memchr::memrchr;
@@ -19,7 +19,7 @@ pub enum Address<'a> {
 }
 
 impl<'a> Address<'a> {
-    ghost use Rattle.modmap.specs.Addresses.{Spells, SpellsNone};
+    ghost use Rattle.mapper_commands.specs.Addresses.{Spells, SpellsNone};
 
     /// The address that the octets spell, as `unix:PATH` or `tcp:HOST:PORT`. The port is decimal, without leading
     /// zeros; the last colon stands before it, so a host may have colons. `None` where they spell none.
@@ -93,4 +93,14 @@ fn split_at_colon(text: &[u8]) -> Option<(&[u8], &[u8])>
     let (host, rest) = text.split_at(place);
     let (_, digits) = rest.split_at(1);
     Some((host, digits))
+}
+
+/// Whether the octets spell an address.
+pub fn is_address(text: &[u8]) -> bool
+    ensures { IsTrue result ↔ IsAddress text.now }
+{
+    match Address::read(text) {
+        Some(_) => true,
+        None => false,
+    }
 }

@@ -1,4 +1,4 @@
--- A command line of one word.
+-- The first word of a command line.
 use Rattle.std.proofs.Common.{◌<◌, ◌≡◌, ℕ, Bool, true, List, [], ◌∷◌, length, map, get_or, sym, ap, ◌∙◌, arith, IsTrue}
 use Rattle.std.specs.Str.{bytes_eq}
 use Rattle.std.proofs.lemmas.Slice.Eq.{bytes_eq-Decides}
