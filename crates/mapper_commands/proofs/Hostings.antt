@@ -1,5 +1,5 @@
 -- What a run that serves many connections comes to.
-use Rattle.std.proofs.Common.{◌≡◌, ◌≢◌, ◌⊎◌, inl, inr, ℕ, ◌+◌, List, [], ◌++◌, map, length, Option, Some, None, Result, Ok, Err, IfSome, IfErr, refl, sym, ap, subst, ◌∙◌, arith}
+use Rattle.std.proofs.Common.{◌≡◌, ◌≢◌, ◌⊎◌, inl, inr, ℕ, List, [], map, Option, Some, None, Result, Ok, Err, IfSome, IfErr, refl, sym, ap, subst, ◌∙◌, arith}
 use Rattle.std.specs.Prelude.{String, string_bytes}
 use Rattle.std.specs.declared.alloc.Global.{Global}
 use Rattle.std.proofs.lemmas.List.{append-nil}
@@ -9,18 +9,27 @@ use Rattle.mm_outside.specs.House.{Stock}
 use Rattle.mm_outside.specs.Told.{Told}
 use Rattle.mm_outside.proofs.ToldLemmas.{Told-map}
 use Rattle.unit_registry.specs.Projects.{ProjectView}
+use Rattle.mapper_server.specs.Statuses.{IsServingStatus}
 use Rattle.mapper_commands.specs.Commands.{ServeWords, AsksToServe, AsksNotToServe}
-use Rattle.mapper_commands.specs.Endings.{Ended, BadWords, OutOfMemory, CannotRead, CannotOpen, Ends, Output, Tells, status_of, told_by}
+use Rattle.mapper_commands.specs.Endings.{Ended, OutOfMemory, CannotRead, Ends, Output, Tells, status_of, told_by}
 use Rattle.mapper_commands.specs.declared.ending.Ending.{Ending}
-use Rattle.mapper_commands.specs.Hosting.{Around, GetsAllBack, HandsBack, HasProject, Hosts, KeepsFiles, KeepsHouse, LacksProject, NamesProject, NoneFailed, ReadsProject, RunsSo, ServesAll, ServesSo, StaysAside, StopsSo, refused, unopened, no_memory, nothing, stopped, served}
+use Rattle.mapper_commands.specs.Hosting.{Around, HandsBack, HasProject, Hosts, KeepsFiles, KeepsHouse, LacksProject, NamesProject, NoneFailed, ReadsProject, RunsSo, ServesAll, StopsSo, refused, unopened, no_memory, nothing, stopped, served}
 use Rattle.mapper_commands.specs.HostSteps.{OpensNone}
 use Rattle.mapper_commands.specs.ProjectFiles.{FindsProject, IsReadAs}
 use Rattle.mapper_commands.specs.Running.{HasStood}
 use Rattle.mapper_commands.proofs.FileLemmas.{told_before, told_project, told_project_taken}
 use Rattle.mapper_commands.proofs.PrintLemmas.{ends_as, six_speaks}
 use Rattle.mapper_commands.proofs.ServeForms.{one_serve}
-use Rattle.mapper_commands.proofs.ServingStatus.{serves_apart}
-use Rattle.mapper_commands.proofs.Statuses.{differ, file_four, file_never, of_file, reads_kept}
+use Rattle.mapper_commands.proofs.Statuses.{differ, file_four, of_file, reads_kept}
+
+-- a status that serving ends with isn't one that says why nothing was served
+serves_apart : (status : ℕ) → IsServingStatus status → (status ≢ 2) × (status ≢ 3) × (status ≢ 6)
+serves_apart status (inl e) = (λ t. omega (arith, e, t), λ t. omega (arith, e, t), λ t. omega (arith, e, t))
+serves_apart status (inr (inl e)) = (λ t. omega (arith, e, t), λ t. omega (arith, e, t), λ t. omega (arith, e, t))
+serves_apart status (inr (inr (inl e))) = (λ t. omega (arith, e, t), λ t. omega (arith, e, t), λ t. omega (arith, e, t))
+serves_apart status (inr (inr (inr (inl e)))) = (λ t. omega (arith, e, t), λ t. omega (arith, e, t), λ t. omega (arith, e, t))
+serves_apart status (inr (inr (inr (inr (inl e))))) = (λ t. omega (arith, e, t), λ t. omega (arith, e, t), λ t. omega (arith, e, t))
+serves_apart status (inr (inr (inr (inr (inr e))))) = (λ t. omega (arith, e, t), λ t. omega (arith, e, t), λ t. omega (arith, e, t))
 
 -- the house gave no hall
 pub none_given : {H C : Type 0} (before now : Stock H C) → before.halls ≡ now.halls → now.halls_back ≡ before.halls_back → HandsBack before now

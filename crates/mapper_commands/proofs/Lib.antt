@@ -22,5 +22,4 @@ mod Colons
 pub mod WordLemmas
 pub mod Spellings
 pub mod ServeForms
-pub mod ServingStatus
 pub mod Hostings

@@ -15,7 +15,7 @@ use Rattle.connection_core.specs.declared.conn_end.ConnEnd.{ConnEnd}
 use Rattle.connection_core.specs.declared.conn_end.ConnEnd.TheVariants.{Closed, Truncated, ReadFault, WriteFault, TooLong, BatchTooLong, HistoryFull}
 use Rattle.trace_text.specs.declared.trace.Trace.{Trace}
 use Rattle.mapper_commands.specs.Commands.{Task, Pipe, Check, Replay, ListUnits, Generate, AsksFor}
-use Rattle.mapper_commands.specs.Endings.{Report, Ended, BadWords, OutOfMemory, CannotRead, FileTooLong, Refused, CannotOpen, Served, Reported, Cut, WriteFailed, EndsIn, Output, Speaks, status_of}
+use Rattle.mapper_commands.specs.Endings.{Report, Ended, OutOfMemory, Served, Reported, Cut, EndsIn, Output, Speaks, status_of}
 use Rattle.mapper_commands.specs.ListRuns.{ListsSo, RefusesList, list_report}
 use Rattle.mapper_commands.specs.Meanings.{FillsHistory, IsEitherRefused, IsOverTrace, IsOverUnits, IsRefusedOf, IsReportOf, Judges, NamesRefused, ReadsBeyond, ReadsTooMuch, EndsInBlock}
 use Rattle.mapper_commands.specs.ProjectFiles.{DeclaresProject, FindsProject, IsOfFile, IsReadAs}

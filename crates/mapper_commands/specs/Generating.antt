@@ -3,7 +3,6 @@ use Rattle.std.specs.Prelude.{◌≡◌, ◌≢◌, ℕ, suc, ◌+◌, ◌<◌, 
 use Rattle.mm_outside.specs.Causes.{Rose}
 use Rattle.mm_outside.specs.Files.{Lookup}
 use Rattle.mm_outside.specs.Told.{Told}
-use Rattle.cody_words.specs.Buffers.{Buffer}
 use Rattle.export_lists.specs.Generated.{generated, source_path}
 use Rattle.export_lists.specs.declared.generated.Generated.{Generated}
 use Rattle.mapper_commands.specs.Endings.{Ended, OutOfMemory, WriteFailed, Report, EndsIn}
@@ -61,10 +60,6 @@ wrote_text count = codes "wrote " ++ decimal count ++ codes " files\n"
 -- the report that so many files were written
 abbrev pub wrote_report : ℕ → Report
 wrote_report count = record { text = wrote_text count; good = true }
-
--- the room of a buffer, with what is taken of it
-abbrev pub capacity_of : Buffer → ℕ
-capacity_of buffer = buffer.spare + length buffer.octets
 
 module _ (faults_before faults_now : ℕ) (before now : Option Lookup) where
   -- What `gen` comes to, by its ending: all files were written, and it ends with the report of their number; or a

@@ -8,9 +8,10 @@ use Rattle.mm_outside.specs.Told.{Told}
 use Rattle.unit_registry.specs.Projects.{ProjectView}
 use Rattle.registry_core.specs.Ledgers.{LedgerView}
 use Rattle.mapper_server.specs.Headline.{IsOf, Serves}
+use Rattle.mapper_server.specs.Statuses.{IsServingStatus}
 use Rattle.mapper_commands.specs.Commands.{ServeWords, AsksToServe}
 use Rattle.mapper_commands.specs.Endings.{Ended, CannotOpen, OutOfMemory, Output}
-use Rattle.mapper_commands.specs.Hosting.{HandsBack, Hosts, IsServingStatus, request_of}
+use Rattle.mapper_commands.specs.Hosting.{HandsBack, Hosts, request_of}
 
 -- some words ask for this
 pub record IsAsked (serve : ServeWords) : Type 0 where

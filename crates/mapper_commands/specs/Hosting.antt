@@ -1,5 +1,5 @@
 -- What the command comes to that serves many connections at once.
-use Rattle.std.specs.Prelude.{◌≡◌, ◌≢◌, ℕ, ◌+◌, ◌⊎◌, List, [], ◌∷◌, ◌++◌, map, length, Option, None, Result, Ok, Err, IfSome, IsSomeAnd, String, string_bytes}
+use Rattle.std.specs.Prelude.{◌≡◌, ℕ, ◌+◌, List, [], ◌∷◌, ◌++◌, map, length, Option, None, Result, Ok, Err, IfSome, IsSomeAnd, String, string_bytes}
 use Rattle.std.specs.declared.alloc.Global.{Global}
 use Rattle.mm_outside.specs.Causes.{Rose}
 use Rattle.mm_outside.specs.Files.{Lookup}
@@ -12,6 +12,7 @@ use Rattle.unit_registry.specs.Projects.{ProjectView}
 use Rattle.registry_core.specs.Ledgers.{LedgerView}
 use Rattle.mapper_server.specs.Headline.{IsOf, Serves}
 use Rattle.mapper_server.specs.Printing.{Prints}
+use Rattle.mapper_server.specs.Statuses.{IsServingStatus}
 use Rattle.mapper_commands.specs.Commands.{ServeWords, AsksToServe, AsksNotToServe}
 use Rattle.mapper_commands.specs.Endings.{Ended, BadWords, OutOfMemory, CannotOpen, Ends, Output, message_of, status_of}
 use Rattle.mapper_commands.specs.ProjectFiles.{DeclaresProject, FindsProject, IsOfFile, IsReadAs, KeepsReads}
@@ -39,12 +40,6 @@ module _ {H L : Type 0} (links : H → Option (Links L)) (hall_faults : H → �
     pub each : length halls ≡ serve.workers
     pub history_is : IsOf project serve.workers serve.entries (length history.entries) history
     pub serves : Serves links hall_faults octets read_faults write_faults history halls back status output.faults_before output.faults_now output.before output.now
-
--- ---- statuses
-
--- a status that serving ends with; 2, 3 and 6 say why nothing was served
-abbrev pub IsServingStatus : ℕ → Type 0
-IsServingStatus status = (status ≡ 0) ⊎ ((status ≡ 4) ⊎ ((status ≡ 5) ⊎ ((status ≡ 7) ⊎ ((status ≡ 8) ⊎ (status ≡ 9)))))
 
 -- ---- what a run comes to
 

@@ -119,7 +119,7 @@ pub fn run_alone<R, F: Files, L: Link, K: Sink>(
     ensures read_fault { result ≡ 4 → LacksFile words.now (F.content files.old) ⊎ Rose (F.read_faults files.old) (F.read_faults files.new) ⊎ Rose (L.read_faults link.old) (L.read_faults link.new) }
     ensures write_fault { result ≡ 5 → Rose (L.write_faults link.old) (L.write_faults link.new) ⊎ Rose (F.write_faults files.old) (F.write_faults files.new) ⊎ Rose (K.faults out.old) (K.faults out.new) }
 
-    // What is done has no fault behind it. No second try hides a read or a write that failed, and in `gen` no read
+    // What is done has no fault after it. No second try hides a read or a write that failed, and in `gen` no read
     // fails.
     ensures unfailing { (result ≡ 0) ⊎ (result ≡ 1) → HasNoFault (outside_of F.content F.read_faults F.write_faults L.octets L.read_faults L.write_faults files.old files.new link.old link.new)
         (output_of K.written K.faults out.old out.new) }

@@ -1,4 +1,4 @@
-//! The words behind `gen` and behind `list`, and numbers among words.
+//! The words after `gen` and after `list`, and numbers among words.
 
 ghost use Rattle.std.specs.Prelude.{◌≡◌, ◌∷◌, [], ℕ, map, string_bytes, IfNone, IfSome};
 ghost use Rattle.std.specs.List.{list_all};
@@ -17,6 +17,9 @@ const MOST_UNITS: u32 = 2_000;
 
 /// The greatest seed.
 const GREATEST_SEED: u32 = 2_147_483_647;
+
+/// The most entries of a history that a command can be asked to keep.
+pub const MOST_ENTRIES: u32 = 1_048_576;
 
 /// Whether no octet is below 0x20 or 0x7f.
 fn has_no_control(word: &[u8]) -> bool
@@ -47,7 +50,7 @@ pub fn read_within(low: u32, high: u32, word: &[u8]) -> Option<u32>
     }
 }
 
-/// The command `gen` with these three words behind it.
+/// The command `gen` with these three words after it.
 fn read_counts<'a>(folder: &'a [u8], units: &[u8], seed: &[u8]) -> Option<Command<'a>>
     ensures asked { IfSome result (λ command. AsksToGenerate (folder.now ∷ units.now ∷ seed.now ∷ []) (task_of command)) }
     ensures none { IfNone result ((task : Task) → AsksToGenerate (folder.now ∷ units.now ∷ seed.now ∷ []) task → ⊥) }
@@ -68,7 +71,7 @@ fn read_counts<'a>(folder: &'a [u8], units: &[u8], seed: &[u8]) -> Option<Comman
     })
 }
 
-/// The command `gen` with these words behind it; `None` where they aren't `FOLDER UNITS SEED` with a FOLDER of 1 to 400
+/// The command `gen` with these words after it; `None` where they aren't `FOLDER UNITS SEED` with a FOLDER of 1 to 400
 /// octets, none below 0x20 and none 0x7f, UNITS from 1 to 2,000 and SEED from 0 to 2,147,483,647, decimal without
 /// leading zeros. The form is this project's own.
 pub fn read_gen(words: &[String]) -> Option<Command<'_>>
@@ -81,7 +84,7 @@ pub fn read_gen(words: &[String]) -> Option<Command<'_>>
     }
 }
 
-/// The command `list` with these words behind it; `None` where they aren't one word. The form is this project's own.
+/// The command `list` with these words after it; `None` where they aren't one word. The form is this project's own.
 pub fn read_list(words: &[String]) -> Option<Command<'_>>
     ensures asked { IfSome result (λ command. AsksToList (map string_bytes words.now) (task_of command)) }
     ensures none { IfNone result ((task : Task) → AsksToList (map string_bytes words.now) task → ⊥) }

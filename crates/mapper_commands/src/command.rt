@@ -5,7 +5,7 @@ ghost use Rattle.mapper_commands.specs.Askings.{IsNumberWithin};
 ghost use Rattle.mapper_server.specs.Limits.{fewest_entries, most_entries};
 ghost use Rattle.mapper_commands.specs.Commands.{Task, Check, Replay, task_of, AsksAs, AsksFor, AsksNothing, AsksOfTrace, AsksPipe};
 
-use crate::askings::{read_gen, read_list, read_within};
+use crate::askings::{MOST_ENTRIES, read_gen, read_list, read_within};
 use crate::verb::Verb;
 
 /// The entries of a history that `pipe` keeps where its words don't say.
@@ -13,9 +13,6 @@ const USUAL_ENTRIES: u32 = 65_536;
 
 /// The fewest entries of a history that `pipe` can be asked to keep.
 const FEWEST_ENTRIES: u32 = 3;
-
-/// The most entries of a history that `pipe` can be asked to keep.
-const MOST_ENTRIES: u32 = 1_048_576;
 
 /// What the words of the command line ask for. Contracts see what `task_of` makes of it.
 #[derive(Clone, Copy, Debug, PartialEq, Eq)]
@@ -77,7 +74,7 @@ impl<'a> Command<'a> {
     }
 }
 
-/// The command of this verb with these words behind it.
+/// The command of this verb with these words after it.
 fn read_behind(verb: Verb, words: &[String]) -> Option<Command<'_>>
     ensures asked { IfSome result (λ command. AsksAs verb (map string_bytes words.now) (task_of command)) }
     ensures none { IfNone result ((task : Task) → AsksAs verb (map string_bytes words.now) task → ⊥) }
@@ -91,7 +88,7 @@ fn read_behind(verb: Verb, words: &[String]) -> Option<Command<'_>>
     }
 }
 
-/// The command `check` with these words behind it.
+/// The command `check` with these words after it.
 fn read_check(words: &[String]) -> Option<Command<'_>>
     ensures asked { IfSome result (λ command. AsksOfTrace Check (map string_bytes words.now) (task_of command)) }
     ensures none { IfNone result ((task : Task) → AsksOfTrace Check (map string_bytes words.now) task → ⊥) }
@@ -105,7 +102,7 @@ fn read_check(words: &[String]) -> Option<Command<'_>>
     }
 }
 
-/// The command `replay` with these words behind it.
+/// The command `replay` with these words after it.
 fn read_replay(words: &[String]) -> Option<Command<'_>>
     ensures asked { IfSome result (λ command. AsksOfTrace Replay (map string_bytes words.now) (task_of command)) }
     ensures none { IfNone result ((task : Task) → AsksOfTrace Replay (map string_bytes words.now) task → ⊥) }
@@ -119,7 +116,7 @@ fn read_replay(words: &[String]) -> Option<Command<'_>>
     }
 }
 
-/// The command `pipe` with these words behind it.
+/// The command `pipe` with these words after it.
 fn read_pipe(words: &[String]) -> Option<Command<'_>>
     ensures asked { IfSome result (λ command. AsksPipe (map string_bytes words.now) (task_of command)) }
     ensures none { IfNone result ((task : Task) → AsksPipe (map string_bytes words.now) task → ⊥) }

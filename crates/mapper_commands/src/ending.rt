@@ -3,18 +3,18 @@
 ghost use Rattle.std.specs.Prelude.{◌≡◌, ◌+◌, ◌≤◌, ◌++◌, length};
 ghost use Rattle.cody_words.specs.Buffers.{Appends};
 ghost use Rattle.cody_words.specs.Canonical.{quote, word_room};
-ghost use Rattle.connection_core.specs.Ends.{status_of as conn_status};
 ghost use Rattle.mapper_commands.specs.Endings.{conn_message, frame_room, refused_text, truncated_text};
 
 use cody_words::{LineBuf, write_number, write_word};
 use connection_core::ConnEnd;
+use mapper_server::conn_status;
 
 /// How a run of the program ends. Contracts see what `told_by` makes of it.
 #[derive(Clone, Copy, Debug, PartialEq, Eq)]
 pub enum Ending<'a> {
     /// The words are of no form.
     BadWords,
-    /// Memory was wanted before the link was touched.
+    /// Memory ran out before the link was touched.
     OutOfMemory,
     /// A file is absent, or reading it failed.
     CannotRead {
@@ -87,20 +87,6 @@ impl Ending<'_> {
     }
 }
 
-/// The status of a connection's end.
-fn conn_status(end: ConnEnd) -> u8
-    ensures { result ≡ conn_status end }
-{
-    match end {
-        ConnEnd::Closed => 0,
-        ConnEnd::ReadFault => 4,
-        ConnEnd::WriteFault => 5,
-        ConnEnd::Truncated { .. } => 7,
-        ConnEnd::TooLong | ConnEnd::BatchTooLong => 8,
-        ConnEnd::HistoryFull { .. } => 9,
-    }
-}
-
 /// Appends what is said of a connection's end.
 fn write_conn_message(end: ConnEnd, out: &mut LineBuf)
     requires { frame_room ≤ out.old.spare }
@@ -128,13 +114,13 @@ fn write_truncated(lines: u32, out: &mut LineBuf)
 }
 
 /// Appends a name in canonical spelling between two texts.
-fn write_named(before: &[u8], name: &[u8], behind: &[u8], out: &mut LineBuf)
-    requires { length before.now + word_room name.now + length behind.now ≤ out.old.spare }
-    ensures { Appends out.old out.new (before.now ++ quote name.now ++ behind.now) }
+fn write_named(before: &[u8], name: &[u8], after: &[u8], out: &mut LineBuf)
+    requires { length before.now + word_room name.now + length after.now ≤ out.old.spare }
+    ensures { Appends out.old out.new (before.now ++ quote name.now ++ after.now) }
 {
     out.extend(before);
     write_word(name, out);
-    out.extend(behind);
+    out.extend(after);
 }
 
 /// Appends that a file's text is refused at a line.
@@ -152,11 +138,11 @@ fn write_refused(name: &[u8], line: u32, reason: &[u8], out: &mut LineBuf)
 }
 
 /// Appends a text between two others.
-fn write_between(before: &[u8], text: &[u8], behind: &[u8], out: &mut LineBuf)
-    requires { length before.now + length text.now + length behind.now ≤ out.old.spare }
-    ensures { Appends out.old out.new (before.now ++ text.now ++ behind.now) }
+fn write_between(before: &[u8], text: &[u8], after: &[u8], out: &mut LineBuf)
+    requires { length before.now + length text.now + length after.now ≤ out.old.spare }
+    ensures { Appends out.old out.new (before.now ++ text.now ++ after.now) }
 {
     out.extend(before);
     out.extend(text);
-    out.extend(behind);
+    out.extend(after);
 }

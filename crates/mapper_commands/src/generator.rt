@@ -7,7 +7,8 @@ ghost use Rattle.mm_outside.specs.Told.{Told};
 ghost use Rattle.export_lists.specs.Generated.{source_path};
 ghost use Rattle.mapper_commands.specs.Askings.{longest_folder, most_units};
 ghost use Rattle.mapper_commands.specs.Endings.{Ends, output_of};
-ghost use Rattle.mapper_commands.specs.Generating.{GeneratesSo, WritesAll, capacity_of, files_of, project_name, source_files, wrote_text};
+ghost use Rattle.mapper_server.specs.Printing.{capacity_of};
+ghost use Rattle.mapper_commands.specs.Generating.{GeneratesSo, WritesAll, files_of, project_name, source_files, wrote_text};
 
 use crate::telling::{issue, print_text, tell_memory};
 use cody_words::{LineBuf, write_number};

@@ -78,7 +78,7 @@ impl Held {
         self.flush(out)
     }
 
-    /// Puts a text behind what is held. That is written first where there is no room, and the text too where it is too
+    /// Puts a text after what is held. That is written first where there is no room, and the text too where it is too
     /// long to be held.
     pub fn put<K: Sink>(&mut self, text: &[u8], out: &mut K) -> Result<(), Failed>
         ensures text { Puts result text.now self.old.octets self.new.octets (K.written out.old) (K.written out.new) }

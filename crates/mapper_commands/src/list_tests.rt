@@ -458,7 +458,7 @@ fn failing_reads(rt: HostRuntime) -> Result<(), Fail> {
 }
 
 /// Whether the report on the worked project ends with status 5 and nothing of it is printed where the first write to
-/// the sink fails, though the sink would take more behind it.
+/// the sink fails, though the sink would take more after it.
 fn is_not_begun(rt: &HostRuntime) -> Option<bool> {
     let mut files = files_of(rt.alloc(), &WORKED, 4_000, &[])?;
     ends_so(rt, &["list", "p"], &mut files, &[0], 5, b"")

@@ -138,7 +138,7 @@ struct Faulty {
 }
 
 /// An absent trace; the read of the project file and of the trace failing; the write of the report failing, and that of
-/// a message, behind which the sink would take more; and words of no form.
+/// a message, after which the sink would take more; and words of no form.
 const FAULTS: [Faulty; 6] = [
     Faulty {
         words: &["replay", "p", "q"],
@@ -250,7 +250,7 @@ fn replay(
     Some((status, out))
 }
 
-/// Two texts, one behind the other.
+/// Two texts, one after the other.
 fn joined(alloc: Global, first: &[u8], second: &[u8]) -> Option<Vec<u8>> {
     let mut text = Vec::new(alloc);
     text.extend_from_slice(first).ok()?;
@@ -294,7 +294,7 @@ fn printed_before(
 }
 
 /// Whether a replay of the long trace at which one write fails ends with status 5 and has printed what the writes
-/// before it took, which is so many octets at least, though the sink would take the writes behind it. The second list
+/// before it took, which is so many octets at least, though the sink would take the writes after it. The second list
 /// has the number of that write, and all later ones.
 fn is_cut(
     rt: &HostRuntime,

@@ -4,16 +4,13 @@ ghost use Rattle.std.specs.Prelude.{◌∷◌, [], map, string_bytes, codes, IfN
 ghost use Rattle.mapper_commands.specs.Commands.{ServeWords, AsksToServe, serve_words};
 
 use crate::address::is_address;
-use crate::askings::read_within;
+use crate::askings::{MOST_ENTRIES, read_within};
 
 /// The most workers of `serve`.
 const MOST_WORKERS: u32 = 64;
 
 /// The most links that a hall of `serve` gives.
 const MOST_LINKS: u32 = 65_536;
-
-/// The most entries of a history that `serve` can be asked to keep.
-const MOST_ENTRIES: u32 = 1_048_576;
 
 /// What the words of `serve` ask for. Contracts see what `serve_words` makes of it.
 #[derive(Clone, Copy, Debug, PartialEq, Eq)]
@@ -31,7 +28,7 @@ pub struct ServeCommand<'a> {
 }
 
 impl<'a> ServeCommand<'a> {
-    /// The command of these words behind `serve`; `None` where they aren't `PROJECT ADDRESS WORKERS LINKS ENTRIES` with
+    /// The command of these words after `serve`; `None` where they aren't `PROJECT ADDRESS WORKERS LINKS ENTRIES` with
     /// an ADDRESS `unix:PATH` or `tcp:HOST:PORT`, WORKERS from 1 to 64, LINKS from 1 to 65,536 and ENTRIES from WORKERS
     /// to 1,048,576, decimal without leading zeros. The form is this project's own.
     pub fn read(words: &'a [String]) -> Option<ServeCommand<'a>>
@@ -51,7 +48,7 @@ impl<'a> ServeCommand<'a> {
     }
 }
 
-/// The command `serve` with these five words behind it.
+/// The command `serve` with these five words after it.
 fn read_counts<'a>(
     project: &'a [u8],
     address: &'a [u8],

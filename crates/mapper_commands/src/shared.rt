@@ -6,9 +6,10 @@ ghost use Rattle.mm_outside.specs.House.{TakesBack};
 ghost use Rattle.mm_outside.specs.Told.{Told};
 ghost use Rattle.unit_registry.specs.Projects.{ProjectView};
 ghost use Rattle.mapper_server.specs.Limits.{most_entries, most_halls};
+ghost use Rattle.mapper_server.specs.Statuses.{IsServingStatus};
 ghost use Rattle.mapper_commands.specs.Commands.{ServeWords, AsksNotToServe, AsksToServe, BeginsWithServe, serve_words};
 ghost use Rattle.mapper_commands.specs.Endings.{output_of, status_of, told_by};
-ghost use Rattle.mapper_commands.specs.Hosting.{GetsAllBack, HandsBack, HasProject, Hosts, IsServingStatus, LacksProject, NamesProject, NoneFailed, RunsSo, ServesAll, ServesSo, StopsSo, around_of};
+ghost use Rattle.mapper_commands.specs.Hosting.{GetsAllBack, HandsBack, HasProject, Hosts, LacksProject, NamesProject, NoneFailed, RunsSo, ServesAll, ServesSo, StopsSo, around_of};
 ghost use Rattle.mapper_commands.specs.HostSteps.{IsAsked, OpensNone, ServesAt, ServesHalls};
 ghost use Rattle.mapper_commands.specs.Running.{HasStood};
 
@@ -45,17 +46,6 @@ fn read_command(words: &[String]) -> Option<ServeCommand<'_>>
     ServeCommand::read(rest)
 }
 
-/// The status of serving, which is none of those that say why nothing was served.
-fn serving_status(status: u8) -> u8
-    ensures kind { IsServingStatus result }
-    ensures same { IsServingStatus status → result ≡ status }
-{
-    match status {
-        0 | 4 | 5 | 7 | 8 => status,
-        _ => 9,
-    }
-}
-
 /// Serves the links of the halls over one history of the project, and gives the halls back to their house. The status.
 fn serve_halls<R: Threads + Wait + Sync, O: House, K: Sink>(
     rt: &R,
@@ -86,7 +76,7 @@ where
     match serve(rt, alloc, project, entries, halls, out) {
         Ok(served) => {
             house.take_back(served.halls);
-            Ok(serving_status(served.status))
+            Ok(served.status)
         }
         Err(ServeError::Memory(halls)) => {
             house.take_back(halls);

@@ -1,6 +1,5 @@
 -- What all workers came to is what serving means, once the registry is closed and its history printed.
-use Rattle.std.proofs.Common.{◌≡◌, ◌⊎◌, inl, inr, ℕ, suc, ◌+◌, ◌-◌, ◌^◌, ◌≤◌, ◌<◌, Bool, true, false, cond, nat_lt, List, [], ◌∷◌, ◌++◌, length, fold, Option, Some, None, Contains, Result, Ok, Err, is_none, refl, sym, ap, subst, ◌∙◌, arith}
-use Rattle.std.specs.Prelude.{slice_get, IsFalse}
+use Rattle.std.proofs.Common.{◌≡◌, ◌⊎◌, inl, inr, ℕ, ◌+◌, ◌-◌, ◌^◌, ◌<◌, List, [], ◌∷◌, ◌++◌, length, Option, Some, None, Ok, Err, refl, sym, ap, subst, ◌∙◌, arith}
 use Rattle.std.specs.List.{cons_option}
 use Rattle.std.proofs.lemmas.List.Elements.{filter_map-append}
 use Rattle.mm_outside.specs.Causes.{HasCause, Rose}
@@ -15,18 +14,18 @@ use Rattle.histories.proofs.Members.{In, In-from_Contains}
 use Rattle.registry_core.specs.Ledgers.{LedgerView, IsLedger, done_in, open_in, opened_in, reserved_in}
 use Rattle.registry_core.proofs.Ready.{fits_in}
 use Rattle.ruled_history.specs.declared.board.View.{View}
-use Rattle.ruled_history.specs.Runs.{AreAllPlaces, Has, once_below, times}
+use Rattle.ruled_history.specs.Runs.{AreAllPlaces}
 use Rattle.ruled_history.specs.Seats.{Sitting}
 use Rattle.ruled_history.specs.Views.{Knows, first_view, with_entries}
 use Rattle.ruled_history.proofs.Counts.{contains_had}
 use Rattle.trace_text.specs.Texts.{trace}
 use Rattle.mapper_server.specs.Backs.{AreReturned, IsReturned, Works, conns_of, new_back}
-use Rattle.mapper_server.specs.Headline.{EachPair, EndsServing, EndsWith, IsOf, IsOver, IsUsedUp, Serves, new_backs, told_all}
+use Rattle.mapper_server.specs.Headline.{EachPair, IsOf, IsUsedUp, Serves, new_backs, told_all}
 use Rattle.mapper_server.specs.Printing.{Prints}
 use Rattle.mapper_server.specs.Serving.{HasNoRoom}
 use Rattle.mapper_server.specs.Statuses.{IsLeast, Grew, less_of}
 use Rattle.mapper_server.specs.Workers.{AllWork, EndsPrinting, IsLeft, ServesAmong}
-use Rattle.mapper_server.proofs.Gathering.{new_back_is}
+use Rattle.mapper_server.proofs.Working.{new_back_is}
 use Rattle.mapper_server.proofs.Halls.{Told-each, each_map}
 use Rattle.mapper_server.proofs.Leasts.{least_both}
 use Rattle.mapper_server.proofs.Numbers.{all_numbers}

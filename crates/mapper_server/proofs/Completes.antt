@@ -263,7 +263,7 @@ told_each {H} {A} tell R (old ∷ before) (new ∷ now) were are e d pairs =
 module _ {H L : Type 0} (links : H → Option (Links L)) (hall_faults : H → ℕ) (octets : L → Option Octets) (read_faults write_faults : L → ℕ) where
   -- no hall and no printing failed, and no link ended with a status of its own
   no_cause : (before now : List H) (backs : List (Back L)) (status sink_before sink_now : ℕ) → AreWell backs → (SomePair (λ (old new : H). Rose (hall_faults old) (hall_faults new)) before now → ⊥) → (Rose sink_before sink_now → ⊥)
-      → (status ≡ 0) ⊎ EndsServing links hall_faults octets read_faults write_faults Rose before now backs sink_before sink_now status → status ≡ 0
+      → (status ≡ 0) ⊎ EndsServing hall_faults Rose before now backs sink_before sink_now status → status ≡ 0
   no_cause before now backs status sink_before sink_now well halls_stood sink_stood (inl none) = none
   no_cause before now backs status sink_before sink_now well halls_stood sink_stood (inr (inl (inl of_link))) =
       All-contains (λ (s : ℕ). s ≡ 0) (statuses_of backs) status (All-map (λ (s : ℕ). s ≡ 0) (λ (back : Back L). back.status) backs well) of_link

@@ -1,5 +1,5 @@
 -- What workers served at a part of a seat stays so at the joined seat, and what all of them came to together.
-use Rattle.std.proofs.Common.{◌≡◌, ℕ, ◌+◌, ◌-◌, ◌≤◌, ◌<◌, List, [], ◌∷◌, ◌++◌, length, drop, Option, Some, None, Contains, inl, inr, refl, sym, ap, subst, ◌∙◌, cond, drop_at, arith}
+use Rattle.std.proofs.Common.{◌≡◌, ℕ, ◌+◌, ◌-◌, ◌≤◌, List, [], ◌∷◌, ◌++◌, length, Option, Some, None, Contains, inl, inr, refl, sym, ap, subst, ◌∙◌, cond, arith}
 use Rattle.std.specs.Prelude.{count_by}
 use Rattle.std.proofs.lemmas.List.{length-append}
 use Rattle.std.proofs.lemmas.List.Elements.{All-cons, All-contains, All-nil, Contains-append_left, Contains-append_right, Contains-push}
@@ -7,7 +7,6 @@ use Rattle.std.proofs.lemmas.List.Sums.{sum_by-append}
 use Rattle.mm_outside.specs.Hall.{Links}
 use Rattle.mm_outside.specs.HallCounts.{HallCounts}
 use Rattle.mm_outside.specs.Octets.{Octets}
-use Rattle.mm_outside.specs.Causes.{Rose}
 use Rattle.mm_outside.specs.Told.{Told}
 use Rattle.mm_outside.specs.declared.hall.Back.{Back}
 use Rattle.mm_outside.proofs.ToldLemmas.{Told-both, Told-map}
@@ -16,20 +15,22 @@ use Rattle.unit_registry.specs.Projects.{ProjectView}
 use Rattle.histories.specs.declared.entry.Entry.{Entry}
 use Rattle.histories.specs.Histories.{IsLegal}
 use Rattle.histories.proofs.LegalCounts.{opened_over, room_is_used_up}
-use Rattle.histories.proofs.Members.{In, In-from_Contains, Contains-from_In, In-filter_map, In-filter_map_from}
+use Rattle.histories.proofs.Members.{In, Contains-from_In, In-filter_map, In-filter_map_from}
 use Rattle.registry_core.specs.Ledgers.{LedgerView, IsLedger, opened_in, reserved_in}
 use Rattle.ruled_history.specs.declared.board.View.{View}
 use Rattle.ruled_history.specs.Seats.{Shared, Sitting}
 use Rattle.ruled_history.specs.Views.{IsBare, Keeps, cut_off, rest_of, with_entries}
 use Rattle.ruled_history.proofs.Histories.{all_front}
-use Rattle.mapper_server.specs.Backs.{AreReturned, IsReturned, IsServed, Works, conns_of, new_back}
-use Rattle.mapper_server.specs.Headline.{EachPair, EndsWith, GivesNoMore, new_backs}
+use Rattle.mapper_server.specs.Backs.{AreReturned, IsReturned, IsServed, conns_of, new_back}
+use Rattle.mapper_server.specs.Headline.{GivesNoMore, new_backs}
 use Rattle.mapper_server.specs.Serving.{HasNoRoom}
-use Rattle.mapper_server.specs.Statuses.{IsLeast, Grew, less_of}
-use Rattle.mapper_server.specs.Workers.{AllWork, MayWork, ServesAmong, WorksAt}
+use Rattle.mapper_server.specs.Statuses.{less_of}
+use Rattle.mapper_server.specs.Workers.{AllWork, EndsLeast, MayWork, ServesAmong, WorksAt}
 use Rattle.mapper_server.proofs.Halls.{Told-last, Told-one, conns_last, conns_one, each_last, each_length, each_map, statuses_last, statuses_one}
 use Rattle.mapper_server.proofs.Joined.{joined_serves}
 use Rattle.mapper_server.proofs.Leaving.{was_full_later}
+use Rattle.mapper_server.proofs.Leasts.{less_serves}
+use Rattle.mapper_server.proofs.Working.{new_back_is}
 
 -- ---- the connections of links that came back
 
@@ -41,9 +42,6 @@ module _ {L : Type 0} where
   conn_there back backs conn there =
       let found = In-filter_map (λ (b : Back L). b.conn) conn backs there in
       In-filter_map_from (λ (b : Back L). b.conn) conn found.0 found.2 (back ∷ backs) (inr found.1)
-
-  pub new_back_is : (old new : Links L) (backs : List (Back L)) → new.back ≡ old.back ++ backs → new_back old new ≡ backs
-  new_back_is old new backs is = ap (drop (length old.back)) is ∙ drop_at old.back backs (length old.back) refl
 
 -- ---- the two parts of a seat
 
@@ -154,9 +152,10 @@ module _ {H L : Type 0} (links : H → Option (Links L)) (hall_faults : H → �
     conns = Told-one links (λ old new. at.connections ≡ conns_of (new_back old new)) (λ olds news. at.connections ≡ conns_of (new_backs olds news)) before now (λ old new is. is ∙ sym (conns_one old new)) h.conns;
     used_up = (h.used_up, tt);
     status_is = Told-one links
-        (λ old new. IsLeast (EndsWith links hall_faults octets read_faults write_faults Rose (before ∷ []) (now ∷ []) (new_back old new)) (EndsWith links hall_faults octets read_faults write_faults Grew (before ∷ []) (now ∷ []) (new_back old new)) status)
-        (λ olds news. IsLeast (EndsWith links hall_faults octets read_faults write_faults Rose (before ∷ []) (now ∷ []) (new_backs olds news)) (EndsWith links hall_faults octets read_faults write_faults Grew (before ∷ []) (now ∷ []) (new_backs olds news)) status)
-        before now (λ old new least. statuses_one links hall_faults octets read_faults write_faults before now old new status least) h.status_is;
+        (λ old new. EndsLeast hall_faults (before ∷ []) (now ∷ []) (new_back old new) status)
+        (λ olds news. EndsLeast hall_faults (before ∷ []) (now ∷ []) (new_backs olds news) status)
+        before now (λ old new least. statuses_one hall_faults before now old new status least) h.status_is;
+    kind = h.kind;
   }
 
   -- one worker more
@@ -174,17 +173,18 @@ module _ {H L : Type 0} (links : H → Option (Links L)) (hall_faults : H → �
         (hall_among (with_entries opening last.seen) last.connections before now one k));
     conns = Told-last links (λ olds news. rest.connections ≡ conns_of (new_backs olds news)) (λ old new. last.connections ≡ conns_of (new_back old new)) (λ olds news. whole.connections ≡ conns_of (new_backs olds news)) befores nows before now as_many
         (λ olds news old new same is more. conns ∙ (λ i. is i ++ more i) ∙ sym (conns_last olds news old new same)) h.conns k.conns;
-    used_up = each_last (GivesNoMore links hall_faults octets read_faults write_faults) befores nows before now h.used_up k.used_up;
+    used_up = each_last (GivesNoMore links hall_faults) befores nows before now h.used_up k.used_up;
     status_is = Told-last links
-        (λ olds news. IsLeast (EndsWith links hall_faults octets read_faults write_faults Rose befores nows (new_backs olds news)) (EndsWith links hall_faults octets read_faults write_faults Grew befores nows (new_backs olds news)) all)
-        (λ old new. IsLeast (EndsWith links hall_faults octets read_faults write_faults Rose (before ∷ []) (now ∷ []) (new_back old new)) (EndsWith links hall_faults octets read_faults write_faults Grew (before ∷ []) (now ∷ []) (new_back old new)) one)
-        (λ olds news. IsLeast (EndsWith links hall_faults octets read_faults write_faults Rose (befores ++ before ∷ []) (nows ++ now ∷ []) (new_backs olds news)) (EndsWith links hall_faults octets read_faults write_faults Grew (befores ++ before ∷ []) (nows ++ now ∷ []) (new_backs olds news)) (less_of all one))
+        (λ olds news. EndsLeast hall_faults befores nows (new_backs olds news) all)
+        (λ old new. EndsLeast hall_faults (before ∷ []) (now ∷ []) (new_back old new) one)
+        (λ olds news. EndsLeast hall_faults (befores ++ before ∷ []) (nows ++ now ∷ []) (new_backs olds news) (less_of all one))
         befores nows before now as_many
-        (λ olds news old new same first second. statuses_last links hall_faults octets read_faults write_faults befores nows before now olds news old new all one as_many same first second) h.status_is k.status_is;
+        (λ olds news old new same first second. statuses_last hall_faults befores nows before now olds news old new all one as_many same first second) h.status_is k.status_is;
+    kind = less_serves all one (less_of all one) refl h.kind k.kind;
   }
     where
       as_many : length befores ≡ length nows
-      as_many = each_length (GivesNoMore links hall_faults octets read_faults write_faults) befores nows h.used_up
+      as_many = each_length (GivesNoMore links hall_faults) befores nows h.used_up
 
   -- the same, of the list of halls and the status as they come
   pub more_work : (rest last whole : View) (befores nows : List H) (before now : H) (all one : ℕ) (halls_now : List H) (status : ℕ) → halls_now ≡ nows ++ now ∷ [] → status ≡ less_of all one

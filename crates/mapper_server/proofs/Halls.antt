@@ -1,15 +1,15 @@
 -- What holds of each of many halls and what all of them tell, where one more comes last.
-use Rattle.std.proofs.Common.{◌≡◌, ◌⊎◌, inl, inr, ℕ, suc, ◌+◌, ◌≤◌, ◌<◌, List, [], ◌∷◌, ◌++◌, length, Option, Some, None, Contains, refl, sym, ap, ap₂, subst, ◌∙◌, append_assoc, arith}
-use Rattle.std.proofs.lemmas.List.{append-nil, length-append, map-append}
+use Rattle.std.proofs.Common.{◌≡◌, ◌⊎◌, inl, inr, ℕ, suc, List, [], ◌∷◌, ◌++◌, length, Option, Some, None, Contains, refl, sym, ap, subst, ◌∙◌, append_assoc, arith}
+use Rattle.std.proofs.lemmas.List.{append-nil, map-append}
 use Rattle.std.proofs.lemmas.List.Elements.{Contains-append_left, Contains-append_right, Contains-append_cases, filter_map-append}
 use Rattle.mm_outside.specs.Causes.{Rose}
 use Rattle.mm_outside.specs.Hall.{Links}
-use Rattle.mm_outside.specs.Octets.{Octets}
 use Rattle.mm_outside.specs.Told.{Told, TellsSo}
 use Rattle.mm_outside.specs.declared.hall.Back.{Back}
 use Rattle.mapper_server.specs.Backs.{conns_of, new_back}
 use Rattle.mapper_server.specs.Headline.{EachPair, EndsWith, SomePair, new_backs, told_all, told_with}
-use Rattle.mapper_server.specs.Statuses.{IsLeast, Grew, less_of, statuses_of}
+use Rattle.mapper_server.specs.Statuses.{Grew, less_of, statuses_of}
+use Rattle.mapper_server.specs.Workers.{EndsLeast}
 use Rattle.mapper_server.proofs.Leasts.{least_both, least_map}
 
 -- ---- two lists, member by member
@@ -155,24 +155,24 @@ module _ {L : Type 0} where
 
 -- ---- the status
 
-module _ {H L : Type 0} (links : H → Option (Links L)) (hall_faults : H → ℕ) (octets : L → Option Octets) (read_faults write_faults : L → ℕ) where
+module _ {H L : Type 0} (hall_faults : H → ℕ) where
   ends_left : (Counts : ℕ → ℕ → Type 0) (befores nows : List H) (before now : H) (backs more : List (Back L)) (status : ℕ)
-      → EndsWith links hall_faults octets read_faults write_faults Counts befores nows backs status → EndsWith links hall_faults octets read_faults write_faults Counts (befores ++ before ∷ []) (nows ++ now ∷ []) (backs ++ more) status
+      → EndsWith hall_faults Counts befores nows backs status → EndsWith hall_faults Counts (befores ++ before ∷ []) (nows ++ now ∷ []) (backs ++ more) status
   ends_left Counts befores nows before now backs more status (inl there) =
       inl (subst (λ (all : List ℕ). Contains all status) (sym (map-append (λ (back : Back L). back.status) backs more)) (Contains-append_left (statuses_of backs) (statuses_of more) status there))
   ends_left Counts befores nows before now backs more status (inr failed) =
       inr (failed.0, some_left (λ (old new : H). Counts (hall_faults old) (hall_faults new)) befores (before ∷ []) nows (now ∷ []) failed.1)
 
   ends_right : (Counts : ℕ → ℕ → Type 0) (befores nows : List H) (before now : H) (backs more : List (Back L)) (status : ℕ) → length befores ≡ length nows
-      → EndsWith links hall_faults octets read_faults write_faults Counts (before ∷ []) (now ∷ []) more status → EndsWith links hall_faults octets read_faults write_faults Counts (befores ++ before ∷ []) (nows ++ now ∷ []) (backs ++ more) status
+      → EndsWith hall_faults Counts (before ∷ []) (now ∷ []) more status → EndsWith hall_faults Counts (befores ++ before ∷ []) (nows ++ now ∷ []) (backs ++ more) status
   ends_right Counts befores nows before now backs more status same (inl there) =
       inl (subst (λ (all : List ℕ). Contains all status) (sym (map-append (λ (back : Back L). back.status) backs more)) (Contains-append_right (statuses_of backs) (statuses_of more) status there))
   ends_right Counts befores nows before now backs more status same (inr failed) =
       inr (failed.0, some_right (λ (old new : H). Counts (hall_faults old) (hall_faults new)) befores (before ∷ []) nows (now ∷ []) same failed.1)
 
   ends_either : (Counts : ℕ → ℕ → Type 0) (befores nows : List H) (before now : H) (backs more : List (Back L)) (status : ℕ) → length befores ≡ length nows
-      → EndsWith links hall_faults octets read_faults write_faults Counts (befores ++ before ∷ []) (nows ++ now ∷ []) (backs ++ more) status
-      → EndsWith links hall_faults octets read_faults write_faults Counts befores nows backs status ⊎ EndsWith links hall_faults octets read_faults write_faults Counts (before ∷ []) (now ∷ []) more status
+      → EndsWith hall_faults Counts (befores ++ before ∷ []) (nows ++ now ∷ []) (backs ++ more) status
+      → EndsWith hall_faults Counts befores nows backs status ⊎ EndsWith hall_faults Counts (before ∷ []) (now ∷ []) more status
   ends_either Counts befores nows before now backs more status same (inl there) =
       elim (Contains-append_cases (statuses_of backs) (statuses_of more) status (subst (λ (all : List ℕ). Contains all status) (map-append (λ (back : Back L). back.status) backs more) there)) [
         | inl left ↦ inl (inl left)
@@ -186,28 +186,26 @@ module _ {H L : Type 0} (links : H → Option (Links L)) (hall_faults : H → �
 
   -- the least status of all halls, where one more comes last
   pub statuses_last : (befores nows : List H) (before now : H) (olds news : List (Links L)) (old new : Links L) (all one : ℕ) → length befores ≡ length nows → length olds ≡ length news
-      → IsLeast (EndsWith links hall_faults octets read_faults write_faults Rose befores nows (new_backs olds news)) (EndsWith links hall_faults octets read_faults write_faults Grew befores nows (new_backs olds news)) all
-      → IsLeast (EndsWith links hall_faults octets read_faults write_faults Rose (before ∷ []) (now ∷ []) (new_back old new)) (EndsWith links hall_faults octets read_faults write_faults Grew (before ∷ []) (now ∷ []) (new_back old new)) one
-      → IsLeast (EndsWith links hall_faults octets read_faults write_faults Rose (befores ++ before ∷ []) (nows ++ now ∷ []) (new_backs (olds ++ old ∷ []) (news ++ new ∷ [])))
-      (EndsWith links hall_faults octets read_faults write_faults Grew (befores ++ before ∷ []) (nows ++ now ∷ []) (new_backs (olds ++ old ∷ []) (news ++ new ∷ []))) (less_of all one)
+      → EndsLeast hall_faults befores nows (new_backs olds news) all
+      → EndsLeast hall_faults (before ∷ []) (now ∷ []) (new_back old new) one
+      → EndsLeast hall_faults (befores ++ before ∷ []) (nows ++ now ∷ []) (new_backs (olds ++ old ∷ []) (news ++ new ∷ [])) (less_of all one)
   statuses_last befores nows before now olds news old new all one same as_many first second =
-      subst (λ (backs : List (Back L)). IsLeast (EndsWith links hall_faults octets read_faults write_faults Rose (befores ++ before ∷ []) (nows ++ now ∷ []) backs)
-      (EndsWith links hall_faults octets read_faults write_faults Grew (befores ++ before ∷ []) (nows ++ now ∷ []) backs) (less_of all one))
+      subst (λ (backs : List (Back L)). EndsLeast hall_faults (befores ++ before ∷ []) (nows ++ now ∷ []) backs (less_of all one))
       (sym (new_backs_last olds news old new as_many)) (least_map may must (least_both first second))
     where
-      may : (s : ℕ) → EndsWith links hall_faults octets read_faults write_faults Rose befores nows (new_backs olds news) s ⊎ EndsWith links hall_faults octets read_faults write_faults Rose (before ∷ []) (now ∷ []) (new_back old new) s
-          → EndsWith links hall_faults octets read_faults write_faults Rose (befores ++ before ∷ []) (nows ++ now ∷ []) (new_backs olds news ++ new_back old new) s
+      may : (s : ℕ) → EndsWith hall_faults Rose befores nows (new_backs olds news) s ⊎ EndsWith hall_faults Rose (before ∷ []) (now ∷ []) (new_back old new) s
+          → EndsWith hall_faults Rose (befores ++ before ∷ []) (nows ++ now ∷ []) (new_backs olds news ++ new_back old new) s
       may s (inl left) = ends_left Rose befores nows before now (new_backs olds news) (new_back old new) s left
       may s (inr right) = ends_right Rose befores nows before now (new_backs olds news) (new_back old new) s same right
 
-      must : (s : ℕ) → EndsWith links hall_faults octets read_faults write_faults Grew (befores ++ before ∷ []) (nows ++ now ∷ []) (new_backs olds news ++ new_back old new) s
-          → EndsWith links hall_faults octets read_faults write_faults Grew befores nows (new_backs olds news) s ⊎ EndsWith links hall_faults octets read_faults write_faults Grew (before ∷ []) (now ∷ []) (new_back old new) s
+      must : (s : ℕ) → EndsWith hall_faults Grew (befores ++ before ∷ []) (nows ++ now ∷ []) (new_backs olds news ++ new_back old new) s
+          → EndsWith hall_faults Grew befores nows (new_backs olds news) s ⊎ EndsWith hall_faults Grew (before ∷ []) (now ∷ []) (new_back old new) s
       must s counts = ends_either Grew befores nows before now (new_backs olds news) (new_back old new) s same counts
 
   -- the statuses of one hall are those of all, where there is no other
   pub statuses_one : (before now : H) (old new : Links L) (status : ℕ)
-      → IsLeast (EndsWith links hall_faults octets read_faults write_faults Rose (before ∷ []) (now ∷ []) (new_back old new)) (EndsWith links hall_faults octets read_faults write_faults Grew (before ∷ []) (now ∷ []) (new_back old new)) status
-      → IsLeast (EndsWith links hall_faults octets read_faults write_faults Rose (before ∷ []) (now ∷ []) (new_backs (old ∷ []) (new ∷ []))) (EndsWith links hall_faults octets read_faults write_faults Grew (before ∷ []) (now ∷ []) (new_backs (old ∷ []) (new ∷ []))) status
+      → EndsLeast hall_faults (before ∷ []) (now ∷ []) (new_back old new) status
+      → EndsLeast hall_faults (before ∷ []) (now ∷ []) (new_backs (old ∷ []) (new ∷ [])) status
   statuses_one before now old new status h =
-      subst (λ (backs : List (Back L)). IsLeast (EndsWith links hall_faults octets read_faults write_faults Rose (before ∷ []) (now ∷ []) backs) (EndsWith links hall_faults octets read_faults write_faults Grew (before ∷ []) (now ∷ []) backs) status)
+      subst (λ (backs : List (Back L)). EndsLeast hall_faults (before ∷ []) (now ∷ []) backs status)
       (sym (append-nil (new_back old new))) h

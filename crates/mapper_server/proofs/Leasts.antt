@@ -1,15 +1,17 @@
 -- The least of statuses, where several come one after another.
-use Rattle.std.proofs.Common.{◌≡◌, ◌⊎◌, inl, inr, ℕ, zero, suc, ◌<◌, ◌≤◌, min, leb, List, [], ◌∷◌, ◌++◌, Contains, Option, refl, sym, subst, ◌∙◌, arith, leb-true, leb-false}
+use Rattle.std.proofs.Common.{◌≡◌, ◌⊎◌, inl, inr, ℕ, zero, suc, ◌<◌, ◌≤◌, min, leb, List, [], ◌∷◌, ◌++◌, Contains, refl, sym, subst, ◌∙◌, arith, leb-true, leb-false}
 use Rattle.std.proofs.Math.Nat.{min-eq_left, min-eq_right}
 use Rattle.std.proofs.lemmas.Bool.{cases_Bool}
 use Rattle.std.proofs.lemmas.List.{map-append}
 use Rattle.std.proofs.lemmas.List.Elements.{Contains-append_left, Contains-push, Contains-push_cases}
 use Rattle.mm_outside.specs.Causes.{Rose}
-use Rattle.mm_outside.specs.Hall.{Links}
-use Rattle.mm_outside.specs.Octets.{Octets}
 use Rattle.mm_outside.specs.declared.hall.Back.{Back}
-use Rattle.mapper_server.specs.Headline.{EndsWith, SomePair}
-use Rattle.mapper_server.specs.Statuses.{IsLeast, Grew, less_of, statuses_of}
+use Rattle.connection_core.specs.declared.conn_end.ConnEnd.{ConnEnd}
+use Rattle.connection_core.specs.declared.conn_end.ConnEnd.TheVariants.{Closed, Truncated, ReadFault, WriteFault, TooLong, BatchTooLong, HistoryFull}
+use Rattle.connection_core.specs.Ends.{status_of}
+use Rattle.mapper_server.specs.Headline.{SomePair}
+use Rattle.mapper_server.specs.Statuses.{IsLeast, IsServingStatus, Grew, less_of, statuses_of}
+use Rattle.mapper_server.specs.Workers.{EndsLeast, EndsPrinting}
 
 -- ---- the less of two
 
@@ -113,10 +115,10 @@ statuses_push {L} backs back = map-append (λ (b : Back L). b.status) backs (bac
 
 -- ---- with what the hall of a worker came to
 
-module _ {H L : Type 0} (links : H → Option (Links L)) (hall_faults : H → ℕ) (octets : L → Option Octets) (read_faults write_faults : L → ℕ) (before now : H) (backs : List (Back L)) where
+module _ {H L : Type 0} (hall_faults : H → ℕ) (before now : H) (backs : List (Back L)) where
   -- the hall has had no fault
   pub least_kept : (status : ℕ) → hall_faults now ≡ hall_faults before → IsLeast (Contains (statuses_of backs)) (Contains (statuses_of backs)) status
-      → IsLeast (EndsWith links hall_faults octets read_faults write_faults Rose (before ∷ []) (now ∷ []) backs) (EndsWith links hall_faults octets read_faults write_faults Grew (before ∷ []) (now ∷ []) backs) status
+      → EndsLeast hall_faults (before ∷ []) (now ∷ []) backs status
   least_kept status kept h = least_map (λ s there. inl there) (λ s counts. elim counts [ inl there ↦ there | inr fault ↦ absurd (none fault.1) ]) h
     where
       none : SomePair (λ (old new : H). Grew (hall_faults old) (hall_faults new)) (before ∷ []) (now ∷ []) → ⊥
@@ -125,5 +127,50 @@ module _ {H L : Type 0} (links : H → Option (Links L)) (hall_faults : H → �
 
   -- the hall has failed
   pub least_failed : (status : ℕ) → Rose (hall_faults before) (hall_faults now) → IsLeast (Contains (statuses_of backs)) (Contains (statuses_of backs)) status
-      → IsLeast (EndsWith links hall_faults octets read_faults write_faults Rose (before ∷ []) (now ∷ []) backs) (EndsWith links hall_faults octets read_faults write_faults Grew (before ∷ []) (now ∷ []) backs) (less_of status 4)
+      → EndsLeast hall_faults (before ∷ []) (now ∷ []) backs (less_of status 4)
   least_failed status rose h = least_map (λ s counts. elim counts [ inl there ↦ inl there | inr same ↦ inr (same, inl rose) ]) (λ s counts. elim counts [ inl there ↦ inl there | inr fault ↦ inr fault.0 ]) (least_both h (least_one 4))
+
+-- ---- which statuses come
+
+pub none_serves : IsServingStatus 0
+none_serves = inl refl
+
+four_serves : IsServingStatus 4
+four_serves = inr (inl refl)
+
+five_serves : IsServingStatus 5
+five_serves = inr (inr (inl refl))
+
+pub nine_serves : IsServingStatus 9
+nine_serves = inr (inr (inr (inr (inr refl))))
+
+-- that of a connection's end
+conn_serves : (how : ConnEnd) → IsServingStatus (status_of how)
+conn_serves Closed = none_serves
+conn_serves (Truncated lines) = inr (inr (inr (inl refl)))
+conn_serves ReadFault = four_serves
+conn_serves WriteFault = five_serves
+conn_serves TooLong = inr (inr (inr (inr (inl refl))))
+conn_serves BatchTooLong = inr (inr (inr (inr (inl refl))))
+conn_serves (HistoryFull entries kept) = nine_serves
+
+pub end_serves : (how : ConnEnd) (status : ℕ) → status ≡ status_of how → IsServingStatus status
+end_serves how status is = subst IsServingStatus (sym is) (conn_serves how)
+
+-- that of a printing
+pub printing_serves : (status sink_before sink_now : ℕ) → IsLeast (EndsPrinting Rose sink_before sink_now) (EndsPrinting Grew sink_before sink_now) status → IsServingStatus status
+printing_serves status sink_before sink_now h = elim h.cause [
+  | inl none ↦ subst IsServingStatus (sym none) none_serves
+  | inr fault ↦ subst IsServingStatus (sym fault.0) five_serves
+]
+
+-- the less of two
+pub less_serves : (a b less : ℕ) → less ≡ less_of a b → IsServingStatus a → IsServingStatus b → IsServingStatus less
+less_serves a b less is first second = elim (less_is a b) [
+  | inl e ↦ subst IsServingStatus (sym (is ∙ e)) first
+  | inr e ↦ subst IsServingStatus (sym (is ∙ e)) second
+]
+
+-- that of a worker whose hall has failed
+pub failed_serves : (status less : ℕ) → less ≡ less_of status 4 → IsServingStatus status → IsServingStatus less
+failed_serves status less is first = less_serves status 4 less is first four_serves

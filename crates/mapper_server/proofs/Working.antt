@@ -20,11 +20,10 @@ use Rattle.connection_core.specs.declared.conn_end.ConnEnd.{ConnEnd}
 use Rattle.connection_core.specs.Answers.{acts_of}
 use Rattle.connection_core.specs.Ends.{HasCauses, status_of}
 use Rattle.mapper_server.specs.Backs.{AreReturned, IsReturned, IsServed, NoneHasConnection, Works, conns_of, new_back}
-use Rattle.mapper_server.specs.Headline.{EndsWith}
 use Rattle.mapper_server.specs.Serving.{HasNoRoom, LeavesOthers, ServesIn, TellsWasFull}
-use Rattle.mapper_server.specs.Statuses.{IsLeast, Grew, less_of, statuses_of}
-use Rattle.mapper_server.specs.Workers.{GivesBackOne, HasWorked, WorksAt}
-use Rattle.mapper_server.proofs.Leasts.{least_begins, least_failed, least_kept, least_push, statuses_push}
+use Rattle.mapper_server.specs.Statuses.{IsLeast, IsServingStatus, less_of, statuses_of}
+use Rattle.mapper_server.specs.Workers.{EndsLeast, GivesBackOne, HasWorked, WorksAt}
+use Rattle.mapper_server.proofs.Leasts.{failed_serves, least_begins, least_failed, least_kept, least_push, statuses_push}
 use Rattle.mapper_server.proofs.Leaving.{was_full_later}
 use Rattle.mapper_server.proofs.Opening.{serves_later}
 use Rattle.mapper_server.proofs.Returning.{adds_rest, adds_seen, leaves_seen, no_room_later, opened_later, opened_named}
@@ -164,23 +163,25 @@ module _ {L : Type 0} (octets : L → Option Octets) (read_faults write_faults :
 
   module _ {H : Type 0} (links : H → Option (Links L)) (hall_faults : H → ℕ) (seen : LedgerView) (connections : List ℕ) (status : ℕ) (before middle now : H) (worked : Told (HasWorked octets read_faults write_faults seen connections status) (links before) (links middle)) (kept : hall_faults middle ≡ hall_faults before) where
     -- the hall gives no more
-    pub works_out : Told (Accepts NoMore) (links middle) (links now) → hall_faults now ≡ hall_faults middle → WorksAt links hall_faults octets read_faults write_faults seen connections before now status
-    works_out accepts same = record {
+    pub works_out : IsServingStatus status → Told (Accepts NoMore) (links middle) (links now) → hall_faults now ≡ hall_faults middle → WorksAt links hall_faults octets read_faults write_faults seen connections before now status
+    works_out kind accepts same = record {
       served = Told-then (λ a b c h e. subst (λ (x : Links L). Works octets read_faults write_faults seen (HasNoRoom seen) a x) (sym e.1) h.works) worked accepts;
       conns = Told-then (λ a b c h e. h.conns ∙ ap conns_of (sym (new_back_is a c h.works.backs (ap (λ (x : Links L). x.back) e.1 ∙ h.works.back)))) worked accepts;
       used_up = inl (Told-then (λ a b c h e. ap (λ (x : Links L). x.to_give) e.1 ∙ e.0) worked accepts);
-      status_is = Told-then (λ a b c h e. subst (λ (bs : List (Back L)). IsLeast (EndsWith links hall_faults octets read_faults write_faults Rose (before ∷ []) (now ∷ []) bs) (EndsWith links hall_faults octets read_faults write_faults Grew (before ∷ []) (now ∷ []) bs) status) (sym (new_back_is a c h.works.backs (ap (λ (x : Links L). x.back) e.1 ∙ h.works.back)))
-          (least_kept links hall_faults octets read_faults write_faults before now h.works.backs status (same ∙ kept) h.least)) worked accepts;
+      status_is = Told-then (λ a b c h e. subst (λ (bs : List (Back L)). EndsLeast hall_faults (before ∷ []) (now ∷ []) bs status) (sym (new_back_is a c h.works.backs (ap (λ (x : Links L). x.back) e.1 ∙ h.works.back)))
+          (least_kept hall_faults before now h.works.backs status (same ∙ kept) h.least)) worked accepts;
+      kind = kind;
     }
 
     -- the hall has failed
-    pub works_failed : Told (Accepts Failed) (links middle) (links now) → Rose (hall_faults middle) (hall_faults now) → WorksAt links hall_faults octets read_faults write_faults seen connections before now (less_of status 4)
-    works_failed accepts rose = record {
+    pub works_failed : IsServingStatus status → Told (Accepts Failed) (links middle) (links now) → Rose (hall_faults middle) (hall_faults now) → WorksAt links hall_faults octets read_faults write_faults seen connections before now (less_of status 4)
+    works_failed kind accepts rose = record {
       served = Told-then (λ a b c h e. subst (λ (x : Links L). Works octets read_faults write_faults seen (HasNoRoom seen) a x) (sym e) h.works) worked accepts;
       conns = Told-then (λ a b c h e. h.conns ∙ ap conns_of (sym (new_back_is a c h.works.backs (ap (λ (x : Links L). x.back) e ∙ h.works.back)))) worked accepts;
       used_up = inr raised;
-      status_is = Told-then (λ a b c h e. subst (λ (bs : List (Back L)). IsLeast (EndsWith links hall_faults octets read_faults write_faults Rose (before ∷ []) (now ∷ []) bs) (EndsWith links hall_faults octets read_faults write_faults Grew (before ∷ []) (now ∷ []) bs) (less_of status 4)) (sym (new_back_is a c h.works.backs (ap (λ (x : Links L). x.back) e ∙ h.works.back)))
-          (least_failed links hall_faults octets read_faults write_faults before now h.works.backs status raised h.least)) worked accepts;
+      status_is = Told-then (λ a b c h e. subst (λ (bs : List (Back L)). EndsLeast hall_faults (before ∷ []) (now ∷ []) bs (less_of status 4)) (sym (new_back_is a c h.works.backs (ap (λ (x : Links L). x.back) e ∙ h.works.back)))
+          (least_failed hall_faults before now h.works.backs status raised h.least)) worked accepts;
+      kind = failed_serves status (less_of status 4) refl kind;
     }
       where
         raised : Rose (hall_faults before) (hall_faults now)
@@ -194,6 +195,7 @@ module _ {L : Type 0} (octets : L → Option Octets) (read_faults write_faults :
     conns = Told-map (λ a b conns. adds.connections ∙ conns) h.conns;
     used_up = h.used_up;
     status_is = h.status_is;
+    kind = h.kind;
   }
     where
       later : (a b : Links L) → before.connections ≡ conns_of (new_back a b) → Works octets read_faults write_faults before.seen (HasNoRoom before.seen) a b → Works octets read_faults write_faults after.seen (HasNoRoom after.seen) a b

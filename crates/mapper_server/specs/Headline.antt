@@ -69,22 +69,22 @@ pub record IsOf (project : ProjectView) (workers limit count : ℕ) (history : L
 abbrev pub IsUsedUp : LedgerView → Type 0
 IsUsedUp history = history.limit ≤ length history.entries + 1
 
+-- the hall can give no further link, or it has failed meanwhile
+abbrev pub GivesNoMore : {H L : Type 0} → (H → Option (Links L)) → (H → ℕ) → H → H → Type 0
+GivesNoMore {H} {L} links hall_faults before now = Told (λ (was is : Links L). is.to_give ≡ []) (links before) (links now) ⊎ Rose (hall_faults before) (hall_faults now)
+
+-- a number that a link or a hall ended with; `Counts` says when a hall's count of faults gives its number
+abbrev pub EndsWith : {H L : Type 0} → (H → ℕ) → (ℕ → ℕ → Type 0) → List H → List H → List (Back L) → ℕ → Type 0
+EndsWith {H} {L} hall_faults Counts before now backs status =
+    Contains (statuses_of backs) status
+    ⊎ ((status ≡ 4) × SomePair (λ (old new : H). Counts (hall_faults old) (hall_faults new)) before now)
+
+-- the same, or a number that the printing of the trace ended with
+abbrev pub EndsServing : {H L : Type 0} → (H → ℕ) → (ℕ → ℕ → Type 0) → List H → List H → List (Back L) → ℕ → ℕ → ℕ → Type 0
+EndsServing hall_faults Counts before now backs sink_before sink_now status =
+    EndsWith hall_faults Counts before now backs status ⊎ ((status ≡ 5) × Counts sink_before sink_now)
+
 module _ {H L : Type 0} (links : H → Option (Links L)) (hall_faults : H → ℕ) (octets : L → Option Octets) (read_faults write_faults : L → ℕ) where
-  -- the hall can give no further link, or it has failed meanwhile
-  abbrev pub GivesNoMore : H → H → Type 0
-  GivesNoMore before now = Told (λ (was is : Links L). is.to_give ≡ []) (links before) (links now) ⊎ Rose (hall_faults before) (hall_faults now)
-
-  -- a number that a link or a hall ended with; `Counts` says when a hall's count of faults gives its number
-  abbrev pub EndsWith : (ℕ → ℕ → Type 0) → List H → List H → List (Back L) → ℕ → Type 0
-  EndsWith Counts before now backs status =
-      Contains (statuses_of backs) status
-      ⊎ ((status ≡ 4) × SomePair (λ (old new : H). Counts (hall_faults old) (hall_faults new)) before now)
-
-  -- the same, or a number that the printing of the trace ended with
-  abbrev pub EndsServing : (ℕ → ℕ → Type 0) → List H → List H → List (Back L) → ℕ → ℕ → ℕ → Type 0
-  EndsServing Counts before now backs sink_before sink_now status =
-      EndsWith Counts before now backs status ⊎ ((status ≡ 5) × Counts sink_before sink_now)
-
   -- One history for all connections. It is printed. Each hall got back every link that it gave, served by this history.
   -- The links that had a connection are one for each connection of it. No hall can give a further link, but for a fault.
   -- The status is the least above 0 that a link, a hall or the printing ended with.
@@ -93,9 +93,9 @@ module _ {H L : Type 0} (links : H → Option (Links L)) (hall_faults : H → �
     pub over : IsOver history
     pub served : EachPair (λ (old new : H). Told (Works octets read_faults write_faults history (IsUsedUp history)) (links old) (links new)) before now
     pub one_each : Told (λ (old new : List (Links L)). AreAllPlaces (conns_of (new_backs old new)) (opened_in history)) (told_all links before) (told_all links now)
-    pub used_up : EachPair GivesNoMore before now
+    pub used_up : EachPair (GivesNoMore links hall_faults) before now
     pub status_is : Told (λ (old new : List (Links L)).
-        IsLeast (EndsServing Rose before now (new_backs old new) sink_before sink_now) (EndsServing Grew before now (new_backs old new) sink_before sink_now) status)
+        IsLeast (EndsServing hall_faults Rose before now (new_backs old new) sink_before sink_now) (EndsServing hall_faults Grew before now (new_backs old new) sink_before sink_now) status)
         (told_all links before) (told_all links now)
 
 -- the halls come back as they were

@@ -20,5 +20,5 @@ abbrev pub line_room : ℕ
 line_room = 64
 
 -- the octets that a buffer has room for in all
-abbrev pub room_of : Buffer → ℕ
-room_of line = line.spare + length line.octets
+abbrev pub capacity_of : Buffer → ℕ
+capacity_of line = line.spare + length line.octets

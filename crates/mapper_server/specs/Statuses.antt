@@ -8,6 +8,10 @@ pub record IsLeast (may must : ℕ → Type 0) (status : ℕ) : Type 0 where
   pub cause : (status ≡ 0) ⊎ may status
   pub least : (other : ℕ) → 0 < other → must other → (0 < status) × (status ≤ other)
 
+-- a status that serving ends with
+abbrev pub IsServingStatus : ℕ → Type 0
+IsServingStatus status = (status ≡ 0) ⊎ ((status ≡ 4) ⊎ ((status ≡ 5) ⊎ ((status ≡ 7) ⊎ ((status ≡ 8) ⊎ (status ≡ 9)))))
+
 -- a count has grown in this call
 abbrev pub Grew : ℕ → ℕ → Type 0
 Grew before now = before < now

@@ -17,7 +17,7 @@ use Rattle.mapper_server.specs.Backs.{IsReturned, Works, conns_of, new_back}
 use Rattle.mapper_server.specs.Headline.{EachPair, EndsWith, GivesNoMore, new_backs, told_all}
 use Rattle.mapper_server.specs.Printing.{line_room}
 use Rattle.mapper_server.specs.Serving.{HasNoRoom}
-use Rattle.mapper_server.specs.Statuses.{IsLeast, Grew, statuses_of}
+use Rattle.mapper_server.specs.Statuses.{IsLeast, IsServingStatus, Grew, statuses_of}
 
 -- the links of a hall were served in the history seen, those that had a connection as some of these
 pub record ServesAmong {L : Type 0} (octets : L → Option Octets) (read_faults write_faults : L → ℕ) (seen : LedgerView) (connections : List ℕ) (before now : Links L) : Type 0 where
@@ -42,20 +42,26 @@ pub record HasWorked {L : Type 0} (octets : L → Option Octets) (read_faults wr
   pub conns : connections ≡ conns_of works.backs
   pub least : IsLeast (Contains (statuses_of works.backs)) (Contains (statuses_of works.backs)) status
 
+-- the least above 0 of the statuses that links and halls ended with
+abbrev pub EndsLeast : {H L : Type 0} → (H → ℕ) → List H → List H → List (Back L) → ℕ → Type 0
+EndsLeast hall_faults before now backs status = IsLeast (EndsWith hall_faults Rose before now backs) (EndsWith hall_faults Grew before now backs) status
+
 module _ {H L : Type 0} (links : H → Option (Links L)) (hall_faults : H → ℕ) (octets : L → Option Octets) (read_faults write_faults : L → ℕ) where
   -- a worker served the links of one hall in the history seen, as these connections
   pub record WorksAt (seen : LedgerView) (connections : List ℕ) (before now : H) (status : ℕ) : Type 0 where
     pub served : Told (Works octets read_faults write_faults seen (HasNoRoom seen)) (links before) (links now)
     pub conns : Told (λ (old new : Links L). connections ≡ conns_of (new_back old new)) (links before) (links now)
-    pub used_up : GivesNoMore links hall_faults octets read_faults write_faults before now
-    pub status_is : Told (λ (old new : Links L). IsLeast (EndsWith links hall_faults octets read_faults write_faults Rose (before ∷ []) (now ∷ []) (new_back old new)) (EndsWith links hall_faults octets read_faults write_faults Grew (before ∷ []) (now ∷ []) (new_back old new)) status) (links before) (links now)
+    pub used_up : GivesNoMore links hall_faults before now
+    pub status_is : Told (λ (old new : Links L). EndsLeast hall_faults (before ∷ []) (now ∷ []) (new_back old new) status) (links before) (links now)
+    pub kind : IsServingStatus status
 
   -- workers served the links of all halls in the history that their joined seat has seen
   pub record AllWork (opening : LedgerView) (after : View) (before now : List H) (status : ℕ) : Type 0 where
     pub served : EachPair (λ (old new : H). Told (ServesAmong octets read_faults write_faults (with_entries opening after.seen) after.connections) (links old) (links new)) before now
     pub conns : Told (λ (old new : List (Links L)). after.connections ≡ conns_of (new_backs old new)) (told_all links before) (told_all links now)
-    pub used_up : EachPair (GivesNoMore links hall_faults octets read_faults write_faults) before now
-    pub status_is : Told (λ (old new : List (Links L)). IsLeast (EndsWith links hall_faults octets read_faults write_faults Rose before now (new_backs old new)) (EndsWith links hall_faults octets read_faults write_faults Grew before now (new_backs old new)) status) (told_all links before) (told_all links now)
+    pub used_up : EachPair (GivesNoMore links hall_faults) before now
+    pub status_is : Told (λ (old new : List (Links L)). EndsLeast hall_faults before now (new_backs old new) status) (told_all links before) (told_all links now)
+    pub kind : IsServingStatus status
 
 -- Workers may begin at a bare seat of a registry that isn't metered and is of the project: the seat has a worker for each
 -- hall, there is a session for each, and no hall has got back more than it gave.

@@ -23,7 +23,7 @@ pub use connection::serve_connection;
 pub use example::{TwoServed, two_served};
 pub use serving::{ServeError, Served, serve};
 pub use single::pipe;
-pub use worker::{ServedConn, serve_link, work};
+pub use worker::{ServedConn, conn_status, serve_link, work};
 
 #[cfg(test)]
 mod law_tests;

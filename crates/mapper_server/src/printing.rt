@@ -6,7 +6,7 @@ ghost use Rattle.mm_outside.specs.Sending.{AppendsAll};
 ghost use Rattle.mm_outside.specs.Told.{Told};
 ghost use Rattle.histories.specs.Entries.{IsTraceEntry};
 ghost use Rattle.trace_text.specs.Texts.{end_line, ended, entry_line, head_line, trace};
-ghost use Rattle.mapper_server.specs.Printing.{Prints, line_room, room_of};
+ghost use Rattle.mapper_server.specs.Printing.{Prints, line_room, capacity_of};
 
 use cody_words::LineBuf;
 use histories::Entry;
@@ -20,10 +20,10 @@ fn print_head<K: Sink>(
     line: &mut LineBuf,
     out: &mut K,
 ) -> Result<(), Failed>
-    requires room { line_room ≤ room_of line.old }
+    requires room { line_room ≤ capacity_of line.old }
     ensures written { Told (AppendsAll result (ended (head_line workers limit))) (K.written out.old) (K.written out.new) }
     ensures cause { HasCause (K.faults out.old) (K.faults out.new) result }
-    ensures room { room_of line.new ≡ room_of line.old }
+    ensures room { capacity_of line.new ≡ capacity_of line.old }
 {
     line.clear();
     write_head(workers, limit, line);
@@ -33,10 +33,10 @@ fn print_head<K: Sink>(
 /// Prints the line of an entry, whole unless a write fails.
 fn print_entry<K: Sink>(entry: &Entry, line: &mut LineBuf, out: &mut K) -> Result<(), Failed>
     requires entry { IsTraceEntry entry.now }
-    requires room { line_room ≤ room_of line.old }
+    requires room { line_room ≤ capacity_of line.old }
     ensures written { Told (AppendsAll result (ended (entry_line entry.now))) (K.written out.old) (K.written out.new) }
     ensures cause { HasCause (K.faults out.old) (K.faults out.new) result }
-    ensures room { room_of line.new ≡ room_of line.old }
+    ensures room { capacity_of line.new ≡ capacity_of line.old }
 {
     line.clear();
     write_entry(entry, line);
@@ -45,7 +45,7 @@ fn print_entry<K: Sink>(entry: &Entry, line: &mut LineBuf, out: &mut K) -> Resul
 
 /// Prints the last line of a trace of so many entries, whole unless a write fails.
 fn print_end<K: Sink>(count: u32, line: &mut LineBuf, out: &mut K) -> Result<(), Failed>
-    requires room { line_room ≤ room_of line.old }
+    requires room { line_room ≤ capacity_of line.old }
     ensures written { Told (AppendsAll result (ended (end_line count))) (K.written out.old) (K.written out.new) }
     ensures cause { HasCause (K.faults out.old) (K.faults out.new) result }
 {

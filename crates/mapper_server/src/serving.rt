@@ -12,7 +12,7 @@ ghost use Rattle.mapper_server.specs.Complete.{NothingHinders};
 ghost use Rattle.mapper_server.specs.Headline.{HandsBack, IsOf, Serves};
 ghost use Rattle.mapper_server.specs.Limits.{most_entries, most_halls};
 ghost use Rattle.mapper_server.specs.Printing.{Prints, line_room};
-ghost use Rattle.mapper_server.specs.Statuses.{Grew, IsLeast};
+ghost use Rattle.mapper_server.specs.Statuses.{Grew, IsLeast, IsServingStatus};
 ghost use Rattle.mapper_server.specs.Workers.{AllWork, EndsPrinting, IsLeft, IsReady, MayWork, WorksAt};
 
 use crate::printing::print_trace;
@@ -281,6 +281,7 @@ where
         (K.faults out.old) (K.faults out.new) (K.written out.old) (K.written out.new)) }
     ensures complete { IfOk result (λ served. NothingHinders H.links H.faults H.Link.octets H.Link.read_faults H.Link.write_faults project.now (vec_len halls) entries halls.items served.halls.items
         (K.faults out.old) (K.faults out.new) → served.status ≡ 0) }
+    ensures kind { IfOk result (λ served. IsServingStatus served.status) }
     ensures memory { IfErr result (λ error. HandsBack halls error × (out.new ≡ out.old)) }
 {
     serve_halls(rt, alloc, project, entries, halls, out)
@@ -305,6 +306,7 @@ where
     ensures headline { IfOk result (λ served. (history : LedgerView) × IsOf project.now (vec_len halls) entries served.entries history
         × Serves H.links H.faults H.Link.octets H.Link.read_faults H.Link.write_faults history halls.items served.halls.items served.status
         (K.faults out.old) (K.faults out.new) (K.written out.old) (K.written out.new)) }
+    ensures kind { IfOk result (λ served. IsServingStatus served.status) }
     ensures memory { IfErr result (λ error. HandsBack halls error × (out.new ≡ out.old)) }
 {
     let workers = halls.len() as u32;
@@ -330,7 +332,8 @@ where
     requires some { 1 ≤ vec_len halls }
     requires ready { IsReady project.now workers limit ready.registry ready.seat (vec_len ready.sessions) ready.line }
     requires unused { All (λ hall. (H.counts hall).back ≡ 0) halls.items }
-    ensures { (history : LedgerView) × IsOf project.now workers limit result.entries history
+    ensures kind { IsServingStatus result.status }
+    ensures headline { (history : LedgerView) × IsOf project.now workers limit result.entries history
         × Serves H.links H.faults H.Link.octets H.Link.read_faults H.Link.write_faults history halls.items result.halls.items result.status
         (K.faults out.old) (K.faults out.new) (K.written out.old) (K.written out.new) }
 {

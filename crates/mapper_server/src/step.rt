@@ -6,10 +6,9 @@ ghost use Rattle.mm_outside.specs.Octets.{Octets};
 ghost use Rattle.mm_outside.specs.Told.{Told};
 ghost use Rattle.registry_core.specs.Desks.{DeskState};
 ghost use Rattle.registry_core.specs.Ledgers.{reply_at};
-ghost use Rattle.connection_core.specs.declared.block_reader.Stage.TheVariants as stage;
 ghost use Rattle.connection_core.specs.declared.conn_end.ConnEnd.TheVariants as ends;
 ghost use Rattle.connection_core.specs.Answers.{IsFirstMissing};
-ghost use Rattle.connection_core.specs.Sessions.{octets_taken, ended};
+ghost use Rattle.connection_core.specs.Sessions.{IsReading, IsWaiting, octets_taken, ended};
 ghost use Rattle.mapper_server.specs.declared.step.Step.TheVariants as steps;
 ghost use Rattle.mapper_server.specs.Steps.{rest_of, IsGoing, AtDesk, Continues, Steps, TurnIn, UnlessEnded, WhereEnded, StepCauses, Fills, EndsInput, TellsFull};
 
@@ -63,8 +62,8 @@ fn reply<D: Desk, L: Link>(
     ensures at_desk { AtDesk project.now session.old.conn (D.tells desk.new) }
     ensures continues { Continues session.old.conn (D.tells desk.old) (D.tells desk.new) }
     ensures going { UnlessEnded result (IsGoing project.now (D.tells desk.new).seen.entries session.new) }
-    ensures reading { result ≡ steps.GoesOn → session.new.reader.stage ≡ stage.Reading }
-    ensures waits { (place : ℕ) → result ≡ steps.Waits place → (session.new.reader.stage ≡ stage.Waiting) × IsFirstMissing (reply_at (D.tells desk.new).seen) session.new.places place }
+    ensures reading { result ≡ steps.GoesOn → IsReading session.new }
+    ensures waits { (place : ℕ) → result ≡ steps.Waits place → IsWaiting session.new × IsFirstMissing (reply_at (D.tells desk.new).seen) session.new.places place }
     ensures full { WhereEnded result (TellsFull (D.tells desk.new).seen) }
     ensures causes { StepCauses result (L.read_faults link.old) (L.read_faults link.new) (L.write_faults link.old) (L.write_faults link.new) }
     ensures turn { IsFalse (D.holds desk.new) }
@@ -126,7 +125,7 @@ where
     D::Item: Drop,
     requires at_desk { AtDesk project.now session.old.conn (D.tells desk.old) }
     requires going { IsGoing project.now (D.tells desk.old).seen.entries session.old }
-    requires reading { session.old.reader.stage ≡ stage.Reading }
+    requires reading { IsReading session.old }
     requires turn { IsFalse (D.holds desk.old) }
     requires some { piece.old.at < piece.old.end }
     requires within { piece.old.end ≤ length room.now }
@@ -170,7 +169,7 @@ where
     D::Item: Drop,
     requires at_desk { AtDesk project.now session.old.conn (D.tells desk.old) }
     requires going { IsGoing project.now (D.tells desk.old).seen.entries session.old }
-    requires reading { session.old.reader.stage ≡ stage.Reading }
+    requires reading { IsReading session.old }
     requires turn { IsFalse (D.holds desk.old) }
     requires room { 0 < length room.old }
     requires order { piece.old.at ≤ piece.old.end }
@@ -218,7 +217,7 @@ where
     ensures at_desk { AtDesk project.now session.old.conn (D.tells desk.new) }
     ensures continues { Continues session.old.conn (D.tells desk.old) (D.tells desk.new) }
     ensures going { UnlessEnded result (IsGoing project.now (D.tells desk.new).seen.entries session.new) }
-    ensures waits { (place : ℕ) → result ≡ steps.Waits place → (session.new.reader.stage ≡ stage.Waiting) × IsFirstMissing (reply_at (D.tells desk.new).seen) session.new.places place }
+    ensures waits { (place : ℕ) → result ≡ steps.Waits place → IsWaiting session.new × IsFirstMissing (reply_at (D.tells desk.new).seen) session.new.places place }
     ensures full { WhereEnded result (TellsFull (D.tells desk.new).seen) }
     ensures causes { StepCauses result (L.read_faults link.old) (L.read_faults link.new) (L.write_faults link.old) (L.write_faults link.new) }
     ensures turn { TurnIn session.new.reader.stage session.new (D.holds desk.new) }

@@ -6,7 +6,7 @@ ghost use Rattle.registry_core.specs.Desks.{IsSound, Looks};
 ghost use Rattle.registry_core.specs.Ledgers.{opened_in};
 ghost use Rattle.connection_core.specs.Ends.{HasCauses, status_of};
 ghost use Rattle.mapper_server.specs.Serving.{FillsUp, HasNoRoom, LeavesOthers, ServesIn, TellsWasFull};
-ghost use Rattle.mapper_server.specs.Statuses.{less_of};
+ghost use Rattle.mapper_server.specs.Statuses.{IsServingStatus, less_of};
 ghost use Rattle.mapper_server.specs.Workers.{GivesBackOne, WorksAt};
 
 use crate::connection::serve_connection;
@@ -26,20 +26,18 @@ pub struct ServedConn {
     pub how: ConnEnd,
 }
 
-/// The status that a connection ends with.
-fn status_of(how: ConnEnd) -> u8
+/// The status that a connection ends with: 0 where all was done, 4 a read failed, 5 a write failed, 7 the input ended
+/// inside a block, 8 the input or a block was too long, 9 the history is full. The numbers are this project's own.
+pub fn conn_status(how: ConnEnd) -> u8
     ensures { result ≡ status_of how }
 {
     match how {
         ConnEnd::Closed => 0,
         ConnEnd::ReadFault => 4,
         ConnEnd::WriteFault => 5,
-        ConnEnd::Truncated { lines: _ } => 7,
+        ConnEnd::Truncated { .. } => 7,
         ConnEnd::TooLong | ConnEnd::BatchTooLong => 8,
-        ConnEnd::HistoryFull {
-            entries: _,
-            reserved: _,
-        } => 9,
+        ConnEnd::HistoryFull { .. } => 9,
     }
 }
 
@@ -112,6 +110,7 @@ where
     requires sound { IsSound (D.tells desk.old) }
     requires worker { (D.tells desk.old).opened + (D.tells desk.old).dones < (D.tells desk.old).share }
     requires given { (H.counts hall.old).back < (H.counts hall.old).given }
+    ensures kind { IsServingStatus result }
     ensures back { Told (GivesBackOne H.Link.octets H.Link.read_faults H.Link.write_faults (D.tells desk.old) (D.tells desk.new) link result) (H.links hall.old) (H.links hall.new) }
     ensures others { LeavesOthers (D.tells desk.old) (D.tells desk.new) }
     ensures sound { IsSound (D.tells desk.new) }
@@ -126,7 +125,7 @@ where
         hall.give_back(link, None, 9);
         return 9;
     };
-    let status = status_of(served.how);
+    let status = conn_status(served.how);
     hall.give_back(link, Some(served.conn), status);
     status
 }

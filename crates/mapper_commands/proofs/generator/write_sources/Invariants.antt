@@ -1,6 +1,7 @@
 use Rattle.std.proofs.Common.{◌≡◌, take}
 use Rattle.mm_outside.specs.Told.{Told}
-use Rattle.mapper_commands.specs.Generating.{HoldTexts, capacity_of, source_files}
+use Rattle.mapper_server.specs.Printing.{capacity_of}
+use Rattle.mapper_commands.specs.Generating.{HoldTexts, source_files}
 use Rattle.mapper_commands.proofs.generator.write_sources.Given as goal
 
 abbrev pub invariant-loop-number : goal.invariant-loop-number

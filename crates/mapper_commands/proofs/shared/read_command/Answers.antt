@@ -1,4 +1,4 @@
-use Rattle.std.proofs.Common.{◌≡◌, ◌∷◌, map, rules, sym, subst}
+use Rattle.std.proofs.Common.{◌≡◌, ◌∷◌, rules, sym, subst}
 use Rattle.std.specs.Prelude.{IfNone, string_bytes}
 use Rattle.mapper_commands.specs.Commands.{ServeWords, AsksToServe}
 use Rattle.mapper_commands.proofs.ServeForms.{behind_serve}

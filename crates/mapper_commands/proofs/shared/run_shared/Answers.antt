@@ -1,8 +1,7 @@
-use Rattle.std.proofs.Common.{refl, subst}
-use Rattle.mm_outside.proofs.ToldLemmas.{Told-same}
+use Rattle.std.proofs.Common.{subst}
 use Rattle.mapper_commands.specs.Commands.{serve_words}
-use Rattle.mapper_commands.specs.Endings.{BadWords, Tells, output_of, told_by}
-use Rattle.mapper_commands.specs.Hosting.{around_of, nothing, served, stopped}
+use Rattle.mapper_commands.specs.Endings.{Tells, output_of, told_by}
+use Rattle.mapper_commands.specs.Hosting.{around_of, served, stopped}
 use Rattle.mapper_commands.proofs.Hostings.{run_hosts, told_stop}
 use Rattle.mapper_commands.proofs.shared.run_shared.Goals as goal
 

@@ -33,7 +33,7 @@ work_beside-join-all-requires-after_bounds g t c κs within =
 pub work_beside-push_reserved-requires : goal.work_beside-push_reserved-requires
 work_beside-push_reserved-requires g t c =
     let all = c.join-all.result.0 in
-    let same = each_length (GivesNoMore g.H.Hall.links g.H.Hall.faults g.H.Link.Link.octets g.H.Link.Link.read_faults g.H.Link.Link.write_faults) c.args.halls.items all.halls.items c.join-all.ensures.first.1.0.used_up in
+    let same = each_length (GivesNoMore g.H.Hall.links g.H.Hall.faults) c.args.halls.items all.halls.items c.join-all.ensures.first.1.0.used_up in
     omega (arith, same, all.halls.ok.0, c.args.halls.ok.0, c.join-all.ensures.first.1.1, c.requires.room)
 
 pub work_beside-returns-clause-work : goal.work_beside-returns-clause-work

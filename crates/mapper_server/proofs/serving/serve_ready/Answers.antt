@@ -2,6 +2,7 @@ use denote.Param.Send.{sendable}
 use Rattle.std.proofs.Common.{length, ap, sym, ◌∙◌, arith}
 use Rattle.registry_core.specs.Ledgers.{LedgerView}
 use Rattle.mapper_server.proofs.Closing.{few_entries, has_served, is_of}
+use Rattle.mapper_server.proofs.Leasts.{less_serves, printing_serves}
 use Rattle.mapper_server.proofs.serving.serve_ready.Goals as goal
 
 pub work_all-seat-requires-clause-send : goal.work_all-seat-requires-clause-send
@@ -17,8 +18,13 @@ overflow_cast-result g c =
     let same = ap length (c.entries.ensures ∙ c.close-book.ensures.seen) in
     omega (arith, few, same)
 
-pub returns : goal.returns
-returns g c =
+pub returns-clause-kind : goal.returns-clause-kind
+returns-clause-kind g c =
+    less_serves c.work_all-seat.result.status c.print_book-printed.result c.less_of.result c.less_of.ensures c.work_all-seat.ensures.work.kind
+    (printing_serves c.print_book-printed.result (g.K.Sink.faults c.args.out.now) (g.K.Sink.faults c.print_book-printed.new.out) c.print_book-printed.ensures.status)
+
+pub returns-clause-headline : goal.returns-clause-headline
+returns-clause-headline g c =
     let opening = c.args.ready.registry.opening.ledger in
     let history = c.close-book.result.ledger in
     let stands = c.close-book.ensures.book.is_ledger in

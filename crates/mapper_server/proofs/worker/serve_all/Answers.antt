@@ -3,6 +3,7 @@ use Rattle.mm_outside.specs.Hall.{Accepts, Links}
 use Rattle.mm_outside.specs.declared.hall.Accepted.TheVariants.{Link}
 use Rattle.mm_outside.proofs.ToldLemmas.{Told-same, Told-then}
 use Rattle.mapper_server.specs.Workers.{GivesBackOne}
+use Rattle.mapper_server.proofs.Leasts.{less_serves, none_serves}
 use Rattle.mapper_server.proofs.Returning.{leaves_further, leaves_same, none_own}
 use Rattle.mapper_server.proofs.Working.{worked_more, worked_none, works_failed, works_out}
 use Rattle.mapper_server.proofs.worker.serve_all.Goals as goal
@@ -17,6 +18,7 @@ loop-init g c = record {
   others = leaves_same (g.D.Desk.tells c.args.desk.now);
   opened = refl;
   dones = refl;
+  kind = none_serves;
   given = c.requires.given;
   faults = refl;
   worked = Told-same (λ x. worked_none g.H.Link.Link.octets g.H.Link.Link.read_faults g.H.Link.Link.write_faults (g.D.Desk.tells c.args.desk.now).seen (g.D.Desk.tells c.args.desk.now).connections x c.requires.bare);
@@ -44,6 +46,7 @@ loop-preserved g c =
       others = leaves_further (g.D.Desk.tells c.args.desk.now) (g.D.Desk.tells c.loop.desk) (g.D.Desk.tells c.serve_next-next.new.desk) (λ conn own. absurd (none_own (g.D.Desk.tells c.args.desk.now).connections conn c.requires.bare own)) inv.others next.others;
       opened = next.opened ∙ inv.opened;
       dones = next.dones ∙ inv.dones;
+      kind = less_serves c.loop.status c.serve_next-next.result c.less_of-status.result c.less_of-status.ensures inv.kind next.kind;
       given = omega (arith, given, one_given, same_back, one_back, same_given);
       faults = next.faults ∙ c.in-Link.ensures.cause.kept ∙ inv.faults;
       worked = rw c.less_of-status.ensures
@@ -54,9 +57,9 @@ loop-preserved g c =
 
 pub returns-in-NoMore-clause-works : goal.returns-in-NoMore-clause-works
 returns-in-NoMore-clause-works g c =
-    works_out g.H.Link.Link.octets g.H.Link.Link.read_faults g.H.Link.Link.write_faults g.H.Hall.links g.H.Hall.faults (g.D.Desk.tells c.loop.desk).seen (g.D.Desk.tells c.loop.desk).connections c.loop.status c.args.hall.now c.loop.hall c.accept.new.self c.loop.invariant.worked c.loop.invariant.faults c.in-NoMore.ensures.links c.in-NoMore.ensures.cause.kept
+    works_out g.H.Link.Link.octets g.H.Link.Link.read_faults g.H.Link.Link.write_faults g.H.Hall.links g.H.Hall.faults (g.D.Desk.tells c.loop.desk).seen (g.D.Desk.tells c.loop.desk).connections c.loop.status c.args.hall.now c.loop.hall c.accept.new.self c.loop.invariant.worked c.loop.invariant.faults c.loop.invariant.kind c.in-NoMore.ensures.links c.in-NoMore.ensures.cause.kept
 
 pub returns-in-Failed-clause-works : goal.returns-in-Failed-clause-works
 returns-in-Failed-clause-works g c =
     rw c.less_of.ensures
-    (works_failed g.H.Link.Link.octets g.H.Link.Link.read_faults g.H.Link.Link.write_faults g.H.Hall.links g.H.Hall.faults (g.D.Desk.tells c.loop.desk).seen (g.D.Desk.tells c.loop.desk).connections c.loop.status c.args.hall.now c.loop.hall c.accept.new.self c.loop.invariant.worked c.loop.invariant.faults c.in-Failed.ensures.links c.in-Failed.ensures.cause.failed)
+    (works_failed g.H.Link.Link.octets g.H.Link.Link.read_faults g.H.Link.Link.write_faults g.H.Hall.links g.H.Hall.faults (g.D.Desk.tells c.loop.desk).seen (g.D.Desk.tells c.loop.desk).connections c.loop.status c.args.hall.now c.loop.hall c.accept.new.self c.loop.invariant.worked c.loop.invariant.faults c.loop.invariant.kind c.in-Failed.ensures.links c.in-Failed.ensures.cause.failed)
