@@ -20,6 +20,8 @@ mod project_file;
 mod replay;
 #[cfg(test)]
 mod replay_tests;
+#[cfg(test)]
+mod serve_tests;
 mod serve_words;
 mod shared;
 mod sources;
