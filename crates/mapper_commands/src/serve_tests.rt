@@ -612,6 +612,50 @@ fn runs_that_accept_no_link(rt: HostRuntime) -> Result<(), Fail> {
     Ok(())
 }
 
+/// The trace of a run with one connection, which greets.
+const GREETED: &[u8] = b"modmap-trace 1 1 64
+0 open
+0 hello 1 0
+0 pause
+0 left
+- done
+end 5
+";
+
+/// A hall whose link greets.
+const GREETER: HallRow = HallRow {
+    links: &[GREETS],
+    failing_accepts: &[],
+};
+
+/// What a run with that connection prints where the write of this number fails, and its status.
+fn print_to<R: Threads + Wait + Sync>(
+    rt: &R,
+    alloc: Global,
+    failing: u64,
+) -> Option<(MemSink, u8)> {
+    let mut files = files_of(alloc, PROJECT, b"", &[])?;
+    let mut house = house_of(alloc, &[GREETER], &[])?;
+    let mut out = MemSink::new(alloc, 200, &[failing]).ok()?;
+    let words = ["serve", "p", "unix:s", "1", "1", "64"];
+    let status = serve_over(rt, alloc, &words, &mut files, &mut house, &mut out)?;
+    Some((out, status))
+}
+
+/// Each line is a write. The one that fails ends the printing, and the run with 5.
+#[test]
+fn each_write_of_the_trace_fails(rt: HostRuntime) -> Result<(), Fail> {
+    let alloc = rt.alloc();
+    for failing in 0..7 {
+        let (out, status) = print_to(&rt, alloc, failing).ok_or("memory")?;
+        let printed = out.written();
+        assert!(rt; status == 5 && printed.len() < GREETED.len() && GREETED.starts_with(printed));
+    }
+    let (out, status) = print_to(&rt, alloc, 7).ok_or("memory")?;
+    assert!(rt; status == 0 && out.written() == GREETED);
+    Ok(())
+}
+
 /// An address as octets, and as what it is read.
 #[derive(Clone, Copy)]
 struct Spelling {
