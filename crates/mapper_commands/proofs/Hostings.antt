@@ -1,20 +1,24 @@
 -- What a run that serves many connections comes to.
-use Rattle.std.proofs.Common.{◌≡◌, ◌≢◌, ◌⊎◌, inl, inr, ℕ, List, [], map, Option, Some, None, Result, Ok, Err, IfSome, IfErr, refl, sym, ap, subst, ◌∙◌, arith}
-use Rattle.std.specs.Prelude.{String, string_bytes}
+use Rattle.std.proofs.Common.{◌≡◌, ◌≢◌, ◌⊎◌, inl, inr, ℕ, List, [], ◌∷◌, ◌++◌, map, length, Option, Some, None, Result, Ok, Err, IfSome, IfErr, IfOk, refl, sym, ap, subst, ◌∙◌, arith}
+use Rattle.std.specs.Prelude.{String, Vec, string_bytes, vec_len}
 use Rattle.std.specs.declared.alloc.Global.{Global}
 use Rattle.std.proofs.lemmas.List.{append-nil}
 use Rattle.mm_outside.specs.Causes.{Rose}
 use Rattle.mm_outside.specs.Files.{Lookup}
-use Rattle.mm_outside.specs.House.{Stock}
+use Rattle.mm_outside.specs.House.{Binds, Stock, TakesBack}
+use Rattle.mm_outside.specs.Hall.{Links}
+use Rattle.mm_outside.specs.Octets.{Octets}
 use Rattle.mm_outside.specs.Told.{Told}
-use Rattle.mm_outside.proofs.ToldLemmas.{Told-map}
+use Rattle.mm_outside.proofs.ToldLemmas.{Told-map, Told-then}
 use Rattle.unit_registry.specs.Projects.{ProjectView}
+use Rattle.mapper_server.specs.Complete.{NothingHinders}
+use Rattle.mapper_server.specs.Headline.{IsOf}
 use Rattle.mapper_server.specs.Statuses.{IsServingStatus}
 use Rattle.mapper_commands.specs.Commands.{ServeWords, AsksToServe, AsksNotToServe}
 use Rattle.mapper_commands.specs.Endings.{Ended, OutOfMemory, CannotRead, Ends, Output, Tells, status_of, told_by}
 use Rattle.mapper_commands.specs.declared.ending.Ending.{Ending}
-use Rattle.mapper_commands.specs.Hosting.{Around, HandsBack, HasProject, Hosts, KeepsFiles, KeepsHouse, LacksProject, NamesProject, NoneFailed, ReadsProject, RunsSo, ServesAll, StopsSo, refused, unopened, no_memory, nothing, stopped, served}
-use Rattle.mapper_commands.specs.HostSteps.{OpensNone}
+use Rattle.mapper_commands.specs.Hosting.{Around, request_of, HandsBack, HasProject, Hosts, Lends, KeepsFiles, KeepsHouse, LacksProject, NamesProject, NoneFailed, ReadsProject, RunsSo, ServesAll, ServesSo, StopsSo, refused, unopened, no_memory, nothing, stopped, served}
+use Rattle.mapper_commands.specs.HostSteps.{OpensNone, ServesAt, ServesHalls}
 use Rattle.mapper_commands.specs.ProjectFiles.{FindsProject, IsReadAs}
 use Rattle.mapper_commands.specs.Running.{HasStood}
 use Rattle.mapper_commands.proofs.FileLemmas.{told_before, told_project, told_project_taken}
@@ -114,6 +118,13 @@ module _ {H L C : Type 0} (around : Around H L C) where
   stops_at serve project (Err ending) reads kept (OpensNone.unopened stock rose is) = unopened project reads kept stock rose is
   stops_at serve project (Err ending) reads kept (OpensNone.no_memory back is) = no_memory (Told-map (λ x y stay. stay.same) reads) back is
 
+  -- the project was read, and all links that the halls gave were served
+  pub serves_at : (serve : ServeWords) (project : ProjectView) (result : Result ℕ Ending) (output : Output) → ReadsProject around serve.project (Ok project) → around.reads_now ≡ around.reads_before
+      → IfOk result (λ status. ServesAt around.links around.hall_faults around.octets around.link_reads around.link_writes project serve output status around.house_before around.house_now around.faults_before around.faults_now)
+      → IfOk result (λ status. ServesSo around serve output status)
+  serves_at serve project (Ok status) output reads kept at = record { project = project; reads = reads; reads_kept = kept; faults_kept = at.faults_kept; status_is = at.status_is; hosts = at.hosts }
+  serves_at serve project (Err ending) output reads kept none = tt
+
   -- ---- a run
 
   module _ (words : List (String Global)) (output : Output) (status : ℕ) where
@@ -162,7 +173,7 @@ module _ {H L C : Type 0} (around : Around H L C) where
 
     -- what the words ask for is done, unless something failed or memory was wanted
     pub run_hosts : RunsSo around words output status → (serve : ServeWords) (project : ProjectView) → AsksToServe (map string_bytes words) serve → HasProject around.files_before serve.project project → HasStood around.reads_before around.reads_now → HasStood around.faults_before around.faults_now → status ≢ 3
-        → Told (Hosts around.links around.hall_faults around.octets around.link_reads around.link_writes project serve output status) around.house_before around.house_now
+        → Hosts around.links around.hall_faults around.octets around.link_reads around.link_writes project serve output status around.house_before around.house_now
     run_hosts (nothing none aside ends) serve project asks has no_read no_fault three = absurd (none serve asks)
     run_hosts (stopped other also ends) serve project asks has no_read no_fault three =
         let same : serve ≡ other = one_serve (map string_bytes words) serve other asks also in
@@ -170,8 +181,8 @@ module _ {H L C : Type 0} (around : Around H L C) where
     run_hosts (served all) serve project asks has no_read no_fault three =
         let same : all.serve ≡ serve = one_serve (map string_bytes words) all.serve serve all.asks asks in
         let found : all.so.project ≡ project = told_project (Rose around.reads_before around.reads_now) all.serve.project project all.so.project around.files_before around.files_now (subst (λ (s : ServeWords). HasProject around.files_before s.project project) (sym same) has) all.so.reads in
-        subst (λ (s : ServeWords). Told (Hosts around.links around.hall_faults around.octets around.link_reads around.link_writes project s output status) around.house_before around.house_now) same
-        (subst (λ p. Told (Hosts around.links around.hall_faults around.octets around.link_reads around.link_writes p all.serve output status) around.house_before around.house_now) found all.so.hosts)
+        subst (λ (s : ServeWords). Hosts around.links around.hall_faults around.octets around.link_reads around.link_writes project s output status around.house_before around.house_now) same
+        (subst (λ p. Hosts around.links around.hall_faults around.octets around.link_reads around.link_writes p all.serve output status around.house_before around.house_now) found all.so.hosts)
 
 -- a run that told of its ending with 6 has that ending
 pub told_six : (due : Ended) (output : Output) (status : ℕ) → Tells due output status → status ≡ 6 → status_of due ≡ 6
@@ -184,3 +195,28 @@ told_six due output status tells six = by tells.so
 -- the message of the ending was told, or memory was wanted for it
 pub told_stop : {H L C : Type 0} (around : Around H L C) (serve : ServeWords) (due : Ended) (output : Output) (status : ℕ) → StopsSo around serve due → Tells due output status → Ends (StopsSo around serve) output status
 told_stop around serve due output status stops tells = ends_as due stops (stop_memory around serve due stops) tells
+
+-- the house gave halls, these were served, and the house took back what came of them
+module _ {H L C : Type 0} (links : H → Option (Links L)) (hall_faults : H → ℕ) (octets : L → Option Octets) (read_faults write_faults : L → ℕ) where
+  pub hosts_so : (project : ProjectView) (serve : ServeWords) (halls : Vec H Global) (output : Output) (status : ℕ) (before middle now : Option (Stock H C)) → vec_len halls ≡ serve.workers
+      → Told (Binds (request_of serve) (Ok halls)) before middle → ServesHalls links hall_faults octets read_faults write_faults project serve.entries halls.items output status middle now
+      → Hosts links hall_faults octets read_faults write_faults project serve output status before now
+  hosts_so project serve halls output status before middle now each bound h = record {
+    halls = halls.items;
+    back = h.back;
+    history = h.history;
+    lends = Told-then (λ a b c binds takes. lent a b c binds takes) bound h.taken_back;
+    each = as_many;
+    history_is = subst (λ (n : ℕ). IsOf project n serve.entries (length h.history.entries) h.history) as_many h.history_is;
+    serves = h.serves;
+    complete = λ none. h.complete (subst (λ (n : ℕ). NothingHinders links hall_faults octets read_faults write_faults project n serve.entries halls.items h.back output.faults_before output.faults_now) (sym as_many) none);
+  }
+    where
+      as_many : length halls.items ≡ serve.workers
+      as_many = sym halls.ok.0 ∙ each
+
+      lent : (a b c : Stock H C) → Binds (request_of serve) (Ok halls) a b → TakesBack h.back b c → Lends (request_of serve) halls.items h.back a c
+      lent a b c binds takes = record {
+        given = binds.0 ∙ ap (λ (hs : List H). halls.items ++ hs) (sym (ap (λ (s : Stock H C). s.halls) takes));
+        rest = takes ∙ ap (λ (s : Stock H C). record s { halls_back = s.halls_back ++ h.back }) binds.1 ∙ ap (λ (hs : List H). record a { halls = hs; halls_back = a.halls_back ++ h.back; binds = a.binds ++ request_of serve ∷ [] }) (sym (ap (λ (s : Stock H C). s.halls) takes));
+      }

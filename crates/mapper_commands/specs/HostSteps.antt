@@ -7,6 +7,7 @@ use Rattle.mm_outside.specs.Octets.{Octets}
 use Rattle.mm_outside.specs.Told.{Told}
 use Rattle.unit_registry.specs.Projects.{ProjectView}
 use Rattle.registry_core.specs.Ledgers.{LedgerView}
+use Rattle.mapper_server.specs.Complete.{NothingHinders}
 use Rattle.mapper_server.specs.Headline.{IsOf, Serves}
 use Rattle.mapper_server.specs.Statuses.{IsServingStatus}
 use Rattle.mapper_commands.specs.Commands.{ServeWords, AsksToServe}
@@ -25,6 +26,7 @@ pub record ServesHalls {H L C : Type 0} (links : H → Option (Links L)) (hall_f
   pub history : LedgerView
   pub history_is : IsOf project (length halls) entries (length history.entries) history
   pub serves : Serves links hall_faults octets read_faults write_faults history halls back status output.faults_before output.faults_now output.before output.now
+  pub complete : NothingHinders links hall_faults octets read_faults write_faults project (length halls) entries halls back output.faults_before output.faults_now → status ≡ 0
   pub taken_back : Told (TakesBack back) before now
 
 -- The house gave halls for what the words ask for, their links were served to this status, and the halls went back.
@@ -32,7 +34,7 @@ pub record ServesAt {H L C : Type 0} (links : H → Option (Links L)) (hall_faul
     (project : ProjectView) (serve : ServeWords) (output : Output) (status : ℕ) (before now : Option (Stock H C)) (faults_before faults_now : ℕ) : Type 0 where
   pub status_is : IsServingStatus status
   pub faults_kept : faults_now ≡ faults_before
-  pub hosts : Told (Hosts links hall_faults octets read_faults write_faults project serve output status) before now
+  pub hosts : Hosts links hall_faults octets read_faults write_faults project serve output status before now
 
 -- No link was accepted: the house gave no hall, by a fault, or memory was wanted.
 pub data OpensNone {H C : Type 0} (serve : ServeWords) (ended : Ended) (before now : Option (Stock H C)) (faults_before faults_now : ℕ) : Type 0 where

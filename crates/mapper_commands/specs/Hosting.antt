@@ -10,6 +10,7 @@ use Rattle.mm_outside.specs.Octets.{Octets}
 use Rattle.mm_outside.specs.Told.{Told}
 use Rattle.unit_registry.specs.Projects.{ProjectView}
 use Rattle.registry_core.specs.Ledgers.{LedgerView}
+use Rattle.mapper_server.specs.Complete.{NothingHinders}
 use Rattle.mapper_server.specs.Headline.{IsOf, Serves}
 use Rattle.mapper_server.specs.Printing.{Prints}
 use Rattle.mapper_server.specs.Statuses.{IsServingStatus}
@@ -27,19 +28,23 @@ HasProject files name project = IsSomeAnd files (λ content. DeclaresProject (co
 abbrev pub request_of : ServeWords → BindRequest
 request_of serve = record { address = serve.address; workers = serve.workers; links = serve.links }
 
+-- a house was asked once for halls, gave these, and took these back; nothing else of it has changed
+pub record Lends {H C : Type 0} (request : BindRequest) (halls back : List H) (before now : Stock H C) : Type 0 where
+  pub given : before.halls ≡ halls ++ now.halls
+  pub rest : now ≡ record before { halls = now.halls; halls_back = before.halls_back ++ back; binds = before.binds ++ request ∷ [] }
+
 module _ {H L : Type 0} (links : H → Option (Links L)) (hall_faults : H → ℕ) (octets : L → Option Octets) (read_faults write_faults : L → ℕ) where
-  -- The house was asked once for halls. It gave a hall for each worker and got the same halls back, in order, and these
-  -- halls served over one history of the project.
-  pub record Hosts {C : Type 0} (project : ProjectView) (serve : ServeWords) (output : Output) (status : ℕ) (before now : Stock H C) : Type 0 where
+  -- The house gave a hall for each worker and got the same halls back, in order, as far as it tells. These halls served
+  -- over one history of the project, and where nothing hindered them, the status is 0.
+  pub record Hosts {C : Type 0} (project : ProjectView) (serve : ServeWords) (output : Output) (status : ℕ) (before now : Option (Stock H C)) : Type 0 where
     pub halls : List H
     pub back : List H
     pub history : LedgerView
-    pub asked : now.binds ≡ before.binds ++ request_of serve ∷ []
-    pub given : before.halls ≡ halls ++ now.halls
-    pub taken_back : now.halls_back ≡ before.halls_back ++ back
+    pub lends : Told (Lends (request_of serve) halls back) before now
     pub each : length halls ≡ serve.workers
     pub history_is : IsOf project serve.workers serve.entries (length history.entries) history
     pub serves : Serves links hall_faults octets read_faults write_faults history halls back status output.faults_before output.faults_now output.before output.now
+    pub complete : NothingHinders links hall_faults octets read_faults write_faults project serve.workers serve.entries halls back output.faults_before output.faults_now → status ≡ 0
 
 -- ---- what a run comes to
 
@@ -122,7 +127,7 @@ module _ {H L C : Type 0} (around : Around H L C) where
     pub reads_kept : around.reads_now ≡ around.reads_before
     pub faults_kept : around.faults_now ≡ around.faults_before
     pub status_is : IsServingStatus status
-    pub hosts : Told (Hosts around.links around.hall_faults around.octets around.link_reads around.link_writes project serve output status) around.house_before around.house_now
+    pub hosts : Hosts around.links around.hall_faults around.octets around.link_reads around.link_writes project serve output status around.house_before around.house_now
 
   -- the words ask to serve, and all links that the halls gave were served
   pub record ServesAll (words : List (String Global)) (output : Output) (status : ℕ) : Type 0 where

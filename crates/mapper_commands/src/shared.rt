@@ -170,7 +170,7 @@ where
     // served.
     ensures headline { (serve : ServeWords) (project : ProjectView) → AsksToServe (map string_bytes words.now) serve → HasProject (F.content files.old) serve.project project
         → HasStood (F.read_faults files.old) (F.read_faults files.new) → HasStood (O.faults house.old) (O.faults house.new) → result ≢ 3
-        → Told (Hosts O.Hall.links O.Hall.faults O.Hall.Link.octets O.Hall.Link.read_faults O.Hall.Link.write_faults project serve (output_of K.written K.faults out.old out.new) result) (O.stock house.old) (O.stock house.new) }
+        → Hosts O.Hall.links O.Hall.faults O.Hall.Link.octets O.Hall.Link.read_faults O.Hall.Link.write_faults project serve (output_of K.written K.faults out.old out.new) result (O.stock house.old) (O.stock house.new) }
     ensures run { RunsSo (around_of O.Hall.links O.Hall.faults O.Hall.Link.octets O.Hall.Link.read_faults O.Hall.Link.write_faults F.content F.read_faults O.stock O.faults files.old files.new house.old house.new)
         words.now (output_of K.written K.faults out.old out.new) result }
     ensures words { (result ≡ 2) ↔ AsksNotToServe words.now }

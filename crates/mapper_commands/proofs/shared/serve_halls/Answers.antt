@@ -1,4 +1,5 @@
-use Rattle.std.proofs.Common.{◌≡◌, ◌+◌, ℕ, refl, sym, ap, ◌∙◌}
+use Rattle.std.proofs.Common.{◌≡◌, ◌+◌, ℕ, refl, sym, ap, subst, ◌∙◌}
+use Rattle.mapper_server.specs.Complete.{NothingHinders}
 use Rattle.std.specs.Prelude.{vec_len}
 use Rattle.mapper_server.specs.Headline.{GivesNoMore}
 use Rattle.mapper_server.proofs.Halls.{each_length}
@@ -12,6 +13,7 @@ returns-in-Ok-clause-served g c =
       history = found.0;
       history_is = record { project_is = found.1.project_is; workers_is = found.1.workers_is ∙ c.args.halls.ok.0; limit_is = found.1.limit_is; count_is = refl };
       serves = found.2;
+      complete = λ none. c.in-Ok.ensures.complete (subst (λ (n : ℕ). NothingHinders g.O.Hall.Hall.links g.O.Hall.Hall.faults g.O.Hall.Link.Link.octets g.O.Hall.Link.Link.read_faults g.O.Hall.Link.Link.write_faults c.args.project.now n c.args.entries c.args.halls.items c.in-Ok.served.halls.items (g.K.Sink.faults c.args.out.now) (g.K.Sink.faults c.serve.new.out)) (sym c.args.halls.ok.0) none);
       taken_back = c.take_back.ensures.stock;
     }
 
