@@ -168,7 +168,7 @@ const ROWS: [Row; 9] = [
         begins: b"modmap-trace 1 3 70\n",
         ends: b"\nend 19\n",
     },
-    // The holder of the module is lost while it is awaited.
+    // The holder of a module is lost, and an import of it fails.
     Row {
         words: &["serve", "p", "unix:s", "2", "1", "64"],
         halls: &[
@@ -383,7 +383,7 @@ fn comes_to<R: Threads + Wait + Sync>(rt: &R, alloc: Global, row: &Row) -> Optio
     Some(is_traced(rt, alloc, PROJECT, row, &ran)? && is_as_it_should(&ran.house, row.halls))
 }
 
-/// Each run, twenty times over: the threads go on in another order each time.
+/// Each run, twenty times over.
 #[test]
 fn runs_over_halls(rt: HostRuntime) -> Result<(), Fail> {
     let alloc = rt.alloc();
@@ -521,7 +521,7 @@ fn ends_ring<R: Threads + Wait + Sync>(rt: &R, alloc: Global, row: &Row) -> Opti
     Some(is_traced(rt, alloc, RING, row, &ran)? && count_refused(&ran.house, row.halls)? == 1)
 }
 
-/// Each ring, twenty times over: the threads go on in another order each time.
+/// Each ring, twenty times over.
 #[test]
 fn rings_end(rt: HostRuntime) -> Result<(), Fail> {
     let alloc = rt.alloc();

@@ -4,6 +4,7 @@ use Rattle.std.specs.List.{cons_option}
 use Rattle.std.proofs.lemmas.List.Elements.{filter_map-append}
 use Rattle.mm_outside.specs.Causes.{HasCause, Rose}
 use Rattle.mm_outside.specs.Hall.{Links}
+use Rattle.mm_outside.specs.HallCounts.{HallCounts}
 use Rattle.mm_outside.specs.Octets.{Octets}
 use Rattle.mm_outside.specs.Told.{Told}
 use Rattle.mm_outside.specs.declared.hall.Back.{Back}
@@ -20,14 +21,14 @@ use Rattle.ruled_history.specs.Views.{Knows, first_view, with_entries}
 use Rattle.ruled_history.proofs.Counts.{contains_had}
 use Rattle.trace_text.specs.Texts.{trace}
 use Rattle.mapper_server.specs.Backs.{AreReturned, IsReturned, Works, conns_of, new_back}
-use Rattle.mapper_server.specs.Headline.{EachPair, IsOf, IsUsedUp, Serves, new_backs, told_all}
+use Rattle.mapper_server.specs.Headline.{EndsPrinting, EachPair, IsOf, IsUsedUp, Serves, new_backs, told_all}
 use Rattle.mapper_server.specs.Printing.{Prints}
 use Rattle.mapper_server.specs.Serving.{HasNoRoom}
 use Rattle.mapper_server.specs.Statuses.{IsLeast, Grew, less_of}
-use Rattle.mapper_server.specs.Workers.{AllWork, EndsPrinting, IsLeft, ServesAmong}
+use Rattle.mapper_server.specs.Workers.{AllWork, IsLeft, ServesAmong}
 use Rattle.mapper_server.proofs.Working.{new_back_is}
 use Rattle.mapper_server.proofs.Halls.{Told-each, each_map}
-use Rattle.mapper_server.proofs.Leasts.{least_both}
+use Rattle.mapper_server.proofs.Leasts.{least_both, less_up_first, less_up_second}
 use Rattle.mapper_server.proofs.Numbers.{all_numbers}
 
 -- ---- the connections of links that were served are below those that were opened
@@ -108,8 +109,8 @@ full_is history done closed none =
     let ends : reserved_in history ≡ open_in history + history.workers - done_in history = refl in
     omega (arith, done, closed, none, ends)
 
-module _ {H L : Type 0} (links : H → Option (Links L)) (hall_faults : H → ℕ) (octets : L → Option Octets) (read_faults write_faults : L → ℕ)
-    (opening : LedgerView) (after : View) (before now : List H) (all : ℕ) (work : AllWork links hall_faults octets read_faults write_faults opening after before now all)
+module _ {H L : Type 0} (links : H → Option (Links L)) (hall_faults : H → ℕ) (counts : H → HallCounts) (octets : L → Option Octets) (read_faults write_faults : L → ℕ)
+    (opening : LedgerView) (after : View) (before now : List H) (all : ℕ) (work : AllWork links hall_faults counts octets read_faults write_faults opening after before now all)
     (knows : Knows opening after) (places : AreAllPlaces after.places (length after.seen)) where
   each_once : Told (λ (old new : List (Links L)). AreAllPlaces (conns_of (new_backs old new)) (opened_in (with_entries opening after.seen))) (told_all links before) (told_all links now)
   each_once =
@@ -132,6 +133,8 @@ module _ {H L : Type 0} (links : H → Option (Links L)) (hall_faults : H → �
     one_each = subst (λ (seen : LedgerView). Told (λ (old new : List (Links L)). AreAllPlaces (conns_of (new_backs old new)) (opened_in seen)) (told_all links before) (told_all links now)) (sym is) each_once;
     used_up = work.used_up;
     status_is = Told-map (λ old new least. least_both least ends) work.status_is;
+    hall_fault = λ some. less_up_first 4 all printed (work.hall_fault some);
+    sink_fault = λ grew. less_up_second 5 all printed (ends.least 5 (omega arith) (refl, grew));
   }
     where
       full : HasNoRoom (with_entries opening after.seen) → IsUsedUp (with_entries opening after.seen)
@@ -139,7 +142,7 @@ module _ {H L : Type 0} (links : H → Option (Links L)) (hall_faults : H → �
 
 -- ---- the registry is closed
 
-module _ {H L : Type 0} (links : H → Option (Links L)) (hall_faults : H → ℕ) (octets : L → Option Octets) (read_faults write_faults : L → ℕ)
+module _ {H L : Type 0} (links : H → Option (Links L)) (hall_faults : H → ℕ) (counts : H → HallCounts) (octets : L → Option Octets) (read_faults write_faults : L → ℕ)
     (project : ProjectView) (workers limit count : ℕ) (opening history : LedgerView) (is_blank : opening ≡ record { project = project; workers = workers; limit = limit; entries = [] })
     (stands : history ≡ with_entries opening history.entries) (counted : count ≡ length history.entries) where
   pub is_of : IsOf project workers limit count history
@@ -152,12 +155,12 @@ module _ {H L : Type 0} (links : H → Option (Links L)) (hall_faults : H → �
 
   pub has_served : (seat left : Sitting) (before now : List H) (all printed status sink_before sink_now : ℕ) (out_before out_now : Option (List ℕ))
       → seat.knows ≡ first_view workers 0 → IsLeft seat left → history.entries ≡ left.knows.seen → AreAllPlaces left.knows.places (length history.entries) → open_in history ≡ left.knows.opened → done_in history ≡ left.knows.dones → Knows opening left.knows
-      → AllWork links hall_faults octets read_faults write_faults opening left.knows before now all
+      → AllWork links hall_faults counts octets read_faults write_faults opening left.knows before now all
       → Told (Prints (trace workers limit history.entries) sink_before sink_now) out_before out_now → IsLeast (EndsPrinting Rose sink_before sink_now) (EndsPrinting Grew sink_before sink_now) printed → status ≡ less_of all printed
       → Serves links hall_faults octets read_faults write_faults history before now status sink_before sink_now out_before out_now
   has_served seat left before now all printed status sink_before sink_now out_before out_now begins ends seen places opened dones knows work prints least is =
       subst (λ (s : ℕ). Serves links hall_faults octets read_faults write_faults history before now s sink_before sink_now out_before out_now) (sym is)
-      (serves links hall_faults octets read_faults write_faults opening left.knows before now all work knows (subst (λ (es : List Entry). AreAllPlaces left.knows.places (length es)) seen places)
+      (serves links hall_faults counts octets read_faults write_faults opening left.knows before now all work knows (subst (λ (es : List Entry). AreAllPlaces left.knows.places (length es)) seen places)
       history printed sink_before sink_now out_before out_now (stands ∙ ap (with_entries opening) seen)
       (dones ∙ ends.dones_is ∙ ap (λ (v : View). v.share) begins ∙ sym is_of.workers_is) (opened ∙ ends.opened_is)
       (subst (λ (n : ℕ × ℕ). Told (Prints (trace n.0 n.1 history.entries) sink_before sink_now) out_before out_now) (λ i. (sym is_of.workers_is i, sym is_of.limit_is i)) prints) least)

@@ -22,14 +22,14 @@ use Rattle.ruled_history.specs.Seats.{Shared, Sitting}
 use Rattle.ruled_history.specs.Views.{IsBare, Keeps, cut_off, rest_of, with_entries}
 use Rattle.ruled_history.proofs.Histories.{all_front}
 use Rattle.mapper_server.specs.Backs.{AreReturned, IsReturned, IsServed, conns_of, new_back}
-use Rattle.mapper_server.specs.Headline.{GivesNoMore, new_backs}
+use Rattle.mapper_server.specs.Headline.{GivesNoMore, new_backs, ReturnsAll}
 use Rattle.mapper_server.specs.Serving.{HasNoRoom}
-use Rattle.mapper_server.specs.Statuses.{less_of}
+use Rattle.mapper_server.specs.Statuses.{Grew, less_of}
 use Rattle.mapper_server.specs.Workers.{AllWork, EndsLeast, MayWork, ServesAmong, WorksAt}
-use Rattle.mapper_server.proofs.Halls.{Told-last, Told-one, conns_last, conns_one, each_last, each_length, each_map, statuses_last, statuses_one}
+use Rattle.mapper_server.proofs.Halls.{Told-last, Told-one, conns_last, conns_one, each_last, each_length, each_map, some_either, statuses_last, statuses_one}
 use Rattle.mapper_server.proofs.Joined.{joined_serves}
 use Rattle.mapper_server.proofs.Leaving.{was_full_later}
-use Rattle.mapper_server.proofs.Leasts.{less_serves}
+use Rattle.mapper_server.proofs.Leasts.{less_serves, less_up_first, less_up_second}
 use Rattle.mapper_server.proofs.Working.{new_back_is}
 
 -- ---- the connections of links that came back
@@ -138,15 +138,15 @@ module _ (opening : LedgerView) (part whole : View) (keeps : Keeps part whole) w
 
 -- ---- all workers together
 
-module _ {H L : Type 0} (links : H → Option (Links L)) (hall_faults : H → ℕ) (octets : L → Option Octets) (read_faults write_faults : L → ℕ) (opening : LedgerView) where
-  hall_among : (seen : LedgerView) (connections : List ℕ) (before now : H) (status : ℕ) → WorksAt links hall_faults octets read_faults write_faults seen connections before now status
+module _ {H L : Type 0} (links : H → Option (Links L)) (hall_faults : H → ℕ) (counts : H → HallCounts) (octets : L → Option Octets) (read_faults write_faults : L → ℕ) (opening : LedgerView) where
+  hall_among : (seen : LedgerView) (connections : List ℕ) (before now : H) (status : ℕ) → WorksAt links hall_faults counts octets read_faults write_faults seen connections before now status
       → Told (ServesAmong octets read_faults write_faults seen connections) (links before) (links now)
   hall_among seen connections before now status h =
       Told-both (λ old new works own. record { works = works; among = λ conn there. subst (λ (cs : List ℕ). Contains cs conn) (sym own) there }) h.served h.conns
 
   -- a worker alone
-  pub one_works : (at : View) (before now : H) (status : ℕ) → WorksAt links hall_faults octets read_faults write_faults (with_entries opening at.seen) at.connections before now status
-      → AllWork links hall_faults octets read_faults write_faults opening at (before ∷ []) (now ∷ []) status
+  pub one_works : (at : View) (before now : H) (status : ℕ) → WorksAt links hall_faults counts octets read_faults write_faults (with_entries opening at.seen) at.connections before now status
+      → AllWork links hall_faults counts octets read_faults write_faults opening at (before ∷ []) (now ∷ []) status
   one_works at before now status h = record {
     served = (hall_among (with_entries opening at.seen) at.connections before now status h, tt);
     conns = Told-one links (λ old new. at.connections ≡ conns_of (new_back old new)) (λ olds news. at.connections ≡ conns_of (new_backs olds news)) before now (λ old new is. is ∙ sym (conns_one old new)) h.conns;
@@ -156,12 +156,14 @@ module _ {H L : Type 0} (links : H → Option (Links L)) (hall_faults : H → �
         (λ olds news. EndsLeast hall_faults (before ∷ []) (now ∷ []) (new_backs olds news) status)
         before now (λ old new least. statuses_one hall_faults before now old new status least) h.status_is;
     kind = h.kind;
+    hall_fault = λ some. elim some [ inl grew ↦ h.hall_fault grew | inr none ↦ absurd none ];
+    returned = (h.returned, tt);
   }
 
   -- one worker more
   all_work : (rest last whole : View) (befores nows : List H) (before now : H) (all one : ℕ) → Keeps rest whole → Keeps last whole → whole.connections ≡ rest.connections ++ last.connections → IsLedger (with_entries opening whole.seen)
-      → AllWork links hall_faults octets read_faults write_faults opening rest befores nows all → WorksAt links hall_faults octets read_faults write_faults (with_entries opening last.seen) last.connections before now one
-      → AllWork links hall_faults octets read_faults write_faults opening whole (befores ++ before ∷ []) (nows ++ now ∷ []) (less_of all one)
+      → AllWork links hall_faults counts octets read_faults write_faults opening rest befores nows all → WorksAt links hall_faults counts octets read_faults write_faults (with_entries opening last.seen) last.connections before now one
+      → AllWork links hall_faults counts octets read_faults write_faults opening whole (befores ++ before ∷ []) (nows ++ now ∷ []) (less_of all one)
   all_work rest last whole befores nows before now all one left right conns ledger h k = record {
     served = each_last (λ (old new : H). Told (ServesAmong octets read_faults write_faults (with_entries opening whole.seen) whole.connections) (links old) (links new)) befores nows before now
         (each_map (λ (old new : H). Told (ServesAmong octets read_faults write_faults (with_entries opening rest.seen) rest.connections) (links old) (links new))
@@ -181,6 +183,11 @@ module _ {H L : Type 0} (links : H → Option (Links L)) (hall_faults : H → �
         befores nows before now as_many
         (λ olds news old new same first second. statuses_last hall_faults befores nows before now olds news old new all one as_many same first second) h.status_is k.status_is;
     kind = less_serves all one (less_of all one) refl h.kind k.kind;
+    hall_fault = λ some. elim (some_either (λ (old new : H). Grew (hall_faults old) (hall_faults new)) befores (before ∷ []) nows (now ∷ []) as_many some) [
+      | inl left ↦ less_up_first 4 all one (h.hall_fault left)
+      | inr right ↦ elim right [ inl grew ↦ less_up_second 4 all one (k.hall_fault grew) | inr none ↦ absurd none ]
+    ];
+    returned = each_last (λ (old new : H). ReturnsAll (counts old) (counts new)) befores nows before now h.returned k.returned;
   }
     where
       as_many : length befores ≡ length nows
@@ -189,7 +196,7 @@ module _ {H L : Type 0} (links : H → Option (Links L)) (hall_faults : H → �
   -- the same, of the list of halls and the status as they come
   pub more_work : (rest last whole : View) (befores nows : List H) (before now : H) (all one : ℕ) (halls_now : List H) (status : ℕ) → halls_now ≡ nows ++ now ∷ [] → status ≡ less_of all one
       → Keeps rest whole → Keeps last whole → whole.connections ≡ rest.connections ++ last.connections → IsLedger (with_entries opening whole.seen)
-      → AllWork links hall_faults octets read_faults write_faults opening rest befores nows all → WorksAt links hall_faults octets read_faults write_faults (with_entries opening last.seen) last.connections before now one
-      → AllWork links hall_faults octets read_faults write_faults opening whole (befores ++ before ∷ []) halls_now status
+      → AllWork links hall_faults counts octets read_faults write_faults opening rest befores nows all → WorksAt links hall_faults counts octets read_faults write_faults (with_entries opening last.seen) last.connections before now one
+      → AllWork links hall_faults counts octets read_faults write_faults opening whole (befores ++ before ∷ []) halls_now status
   more_work rest last whole befores nows before now all one halls_now status are is left right conns ledger h k =
-      subst (λ (p : List H × ℕ). AllWork links hall_faults octets read_faults write_faults opening whole (befores ++ before ∷ []) p.0 p.1) (λ i. (sym are i, sym is i)) (all_work rest last whole befores nows before now all one left right conns ledger h k)
+      subst (λ (p : List H × ℕ). AllWork links hall_faults counts octets read_faults write_faults opening whole (befores ++ before ∷ []) p.0 p.1) (λ i. (sym are i, sym is i)) (all_work rest last whole befores nows before now all one left right conns ledger h k)

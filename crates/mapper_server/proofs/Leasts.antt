@@ -9,9 +9,9 @@ use Rattle.mm_outside.specs.declared.hall.Back.{Back}
 use Rattle.connection_core.specs.declared.conn_end.ConnEnd.{ConnEnd}
 use Rattle.connection_core.specs.declared.conn_end.ConnEnd.TheVariants.{Closed, Truncated, ReadFault, WriteFault, TooLong, BatchTooLong, HistoryFull}
 use Rattle.connection_core.specs.Ends.{status_of}
-use Rattle.mapper_server.specs.Headline.{SomePair}
-use Rattle.mapper_server.specs.Statuses.{IsLeast, IsServingStatus, Grew, less_of, statuses_of}
-use Rattle.mapper_server.specs.Workers.{EndsLeast, EndsPrinting}
+use Rattle.mapper_server.specs.Headline.{EndsPrinting, SomePair}
+use Rattle.mapper_server.specs.Statuses.{IsLeast, IsServingStatus, IsUpTo, Grew, less_of, statuses_of}
+use Rattle.mapper_server.specs.Workers.{EndsLeast}
 
 -- ---- the less of two
 
@@ -29,7 +29,7 @@ less_is (suc a) (suc b) = elim (min_cases (suc a) (suc b)) [
   | inr second ↦ inr second.0
 ]
 
-least_first : (a b : ℕ) → 0 < a → (0 < less_of a b) × (less_of a b ≤ a)
+pub least_first : (a b : ℕ) → 0 < a → IsUpTo a (less_of a b)
 least_first zero b positive = absurd (omega (arith, positive))
 least_first (suc a) zero positive = (omega arith, omega arith)
 least_first (suc a) (suc b) positive = elim (min_cases (suc a) (suc b)) [
@@ -37,7 +37,7 @@ least_first (suc a) (suc b) positive = elim (min_cases (suc a) (suc b)) [
   | inr second ↦ (let e = second.0 in let le = second.1 in (omega (arith, e), omega (arith, e, le)))
 ]
 
-least_second : (a b : ℕ) → 0 < b → (0 < less_of a b) × (less_of a b ≤ b)
+pub least_second : (a b : ℕ) → 0 < b → IsUpTo b (less_of a b)
 least_second zero b positive = (positive, omega arith)
 least_second (suc a) zero positive = absurd (omega (arith, positive))
 least_second (suc a) (suc b) positive = elim (min_cases (suc a) (suc b)) [
@@ -73,7 +73,7 @@ least_both {may} {may_too} {must} {must_too} {a} {b} first second = record { cau
       ]
     ]
 
-    least : (other : ℕ) → 0 < other → must other ⊎ must_too other → (0 < less_of a b) × (less_of a b ≤ other)
+    least : (other : ℕ) → 0 < other → must other ⊎ must_too other → IsUpTo other (less_of a b)
     least other positive (inl counts) =
         let h = first.least other positive counts in
         let l = least_first a b h.0 in
@@ -174,3 +174,13 @@ less_serves a b less is first second = elim (less_is a b) [
 -- that of a worker whose hall has failed
 pub failed_serves : (status less : ℕ) → less ≡ less_of status 4 → IsServingStatus status → IsServingStatus less
 failed_serves status less is first = less_serves status 4 less is first four_serves
+
+-- ---- a fault counts whatever is told
+
+-- the first of two statuses is that small
+pub less_up_first : (most a b : ℕ) → IsUpTo most a → IsUpTo most (less_of a b)
+less_up_first most a b h = let l = least_first a b h.0 in (l.0, omega (arith, l.1, h.1))
+
+-- the second one is
+pub less_up_second : (most a b : ℕ) → IsUpTo most b → IsUpTo most (less_of a b)
+less_up_second most a b h = let l = least_second a b h.0 in (l.0, omega (arith, l.1, h.1))

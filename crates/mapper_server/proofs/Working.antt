@@ -7,6 +7,7 @@ use Rattle.mm_outside.specs.Causes.{Rose}
 use Rattle.mm_outside.specs.Octets.{Octets}
 use Rattle.mm_outside.specs.Told.{Told}
 use Rattle.mm_outside.specs.Hall.{Accepts, GivesBack, Links}
+use Rattle.mm_outside.specs.HallCounts.{HallCounts}
 use Rattle.mm_outside.specs.declared.hall.Accepted.TheVariants.{Failed, Link, NoMore}
 use Rattle.mm_outside.specs.declared.hall.Back.{Back}
 use Rattle.mm_outside.proofs.ToldLemmas.{Told-both, Told-map, Told-then}
@@ -20,10 +21,11 @@ use Rattle.connection_core.specs.declared.conn_end.ConnEnd.{ConnEnd}
 use Rattle.connection_core.specs.Answers.{acts_of}
 use Rattle.connection_core.specs.Ends.{HasCauses, status_of}
 use Rattle.mapper_server.specs.Backs.{AreReturned, IsReturned, IsServed, NoneHasConnection, Works, conns_of, new_back}
+use Rattle.mapper_server.specs.Headline.{ReturnsAll}
 use Rattle.mapper_server.specs.Serving.{HasNoRoom, LeavesOthers, ServesIn, TellsWasFull}
 use Rattle.mapper_server.specs.Statuses.{IsLeast, IsServingStatus, less_of, statuses_of}
 use Rattle.mapper_server.specs.Workers.{EndsLeast, GivesBackOne, HasWorked, WorksAt}
-use Rattle.mapper_server.proofs.Leasts.{failed_serves, least_begins, least_failed, least_kept, least_push, statuses_push}
+use Rattle.mapper_server.proofs.Leasts.{failed_serves, least_begins, least_failed, least_second, least_kept, least_push, statuses_push}
 use Rattle.mapper_server.proofs.Leaving.{was_full_later}
 use Rattle.mapper_server.proofs.Opening.{serves_later}
 use Rattle.mapper_server.proofs.Returning.{adds_rest, adds_seen, leaves_seen, no_room_later, opened_later, opened_named}
@@ -161,9 +163,9 @@ module _ {L : Type 0} (octets : L → Option Octets) (read_faults write_faults :
 
   -- ---- a worker that has ended
 
-  module _ {H : Type 0} (links : H → Option (Links L)) (hall_faults : H → ℕ) (seen : LedgerView) (connections : List ℕ) (status : ℕ) (before middle now : H) (worked : Told (HasWorked octets read_faults write_faults seen connections status) (links before) (links middle)) (kept : hall_faults middle ≡ hall_faults before) where
+  module _ {H : Type 0} (links : H → Option (Links L)) (hall_faults : H → ℕ) (counts : H → HallCounts) (seen : LedgerView) (connections : List ℕ) (status : ℕ) (before middle now : H) (worked : Told (HasWorked octets read_faults write_faults seen connections status) (links before) (links middle)) (kept : hall_faults middle ≡ hall_faults before) (returned : ReturnsAll (counts before) (counts now)) where
     -- the hall gives no more
-    pub works_out : IsServingStatus status → Told (Accepts NoMore) (links middle) (links now) → hall_faults now ≡ hall_faults middle → WorksAt links hall_faults octets read_faults write_faults seen connections before now status
+    pub works_out : IsServingStatus status → Told (Accepts NoMore) (links middle) (links now) → hall_faults now ≡ hall_faults middle → WorksAt links hall_faults counts octets read_faults write_faults seen connections before now status
     works_out kind accepts same = record {
       served = Told-then (λ a b c h e. subst (λ (x : Links L). Works octets read_faults write_faults seen (HasNoRoom seen) a x) (sym e.1) h.works) worked accepts;
       conns = Told-then (λ a b c h e. h.conns ∙ ap conns_of (sym (new_back_is a c h.works.backs (ap (λ (x : Links L). x.back) e.1 ∙ h.works.back)))) worked accepts;
@@ -171,10 +173,12 @@ module _ {L : Type 0} (octets : L → Option Octets) (read_faults write_faults :
       status_is = Told-then (λ a b c h e. subst (λ (bs : List (Back L)). EndsLeast hall_faults (before ∷ []) (now ∷ []) bs status) (sym (new_back_is a c h.works.backs (ap (λ (x : Links L). x.back) e.1 ∙ h.works.back)))
           (least_kept hall_faults before now h.works.backs status (same ∙ kept) h.least)) worked accepts;
       kind = kind;
+      hall_fault = λ grew. absurd (omega (arith, same, kept, grew));
+      returned = returned;
     }
 
     -- the hall has failed
-    pub works_failed : IsServingStatus status → Told (Accepts Failed) (links middle) (links now) → Rose (hall_faults middle) (hall_faults now) → WorksAt links hall_faults octets read_faults write_faults seen connections before now (less_of status 4)
+    pub works_failed : IsServingStatus status → Told (Accepts Failed) (links middle) (links now) → Rose (hall_faults middle) (hall_faults now) → WorksAt links hall_faults counts octets read_faults write_faults seen connections before now (less_of status 4)
     works_failed kind accepts rose = record {
       served = Told-then (λ a b c h e. subst (λ (x : Links L). Works octets read_faults write_faults seen (HasNoRoom seen) a x) (sym e) h.works) worked accepts;
       conns = Told-then (λ a b c h e. h.conns ∙ ap conns_of (sym (new_back_is a c h.works.backs (ap (λ (x : Links L). x.back) e ∙ h.works.back)))) worked accepts;
@@ -182,20 +186,24 @@ module _ {L : Type 0} (octets : L → Option Octets) (read_faults write_faults :
       status_is = Told-then (λ a b c h e. subst (λ (bs : List (Back L)). EndsLeast hall_faults (before ∷ []) (now ∷ []) bs (less_of status 4)) (sym (new_back_is a c h.works.backs (ap (λ (x : Links L). x.back) e ∙ h.works.back)))
           (least_failed hall_faults before now h.works.backs status raised h.least)) worked accepts;
       kind = failed_serves status (less_of status 4) refl kind;
+      hall_fault = λ grew. least_second status 4 (omega arith);
+      returned = returned;
     }
       where
         raised : Rose (hall_faults before) (hall_faults now)
         raised = subst (λ n. Rose n (hall_faults now)) kept rose
 
   -- the end of a worker leaves its links as they were given back
-  pub works_done : {H Held : Type 0} (links : H → Option (Links L)) (hall_faults : H → ℕ) (before after : DeskState Held) (place : ℕ) (was now : H) (status : ℕ) → IsSound before → IsSound after → Adds before (entry no_connection act.Done) place after → WorksAt links hall_faults octets read_faults write_faults before.seen before.connections was now status
-      → WorksAt links hall_faults octets read_faults write_faults after.seen after.connections was now status
-  works_done {H} {Held} links hall_faults before after place was now status sound_before sound_after adds h = record {
+  pub works_done : {H Held : Type 0} (links : H → Option (Links L)) (hall_faults : H → ℕ) (counts : H → HallCounts) (before after : DeskState Held) (place : ℕ) (was now : H) (status : ℕ) → IsSound before → IsSound after → Adds before (entry no_connection act.Done) place after → WorksAt links hall_faults counts octets read_faults write_faults before.seen before.connections was now status
+      → WorksAt links hall_faults counts octets read_faults write_faults after.seen after.connections was now status
+  works_done {H} {Held} links hall_faults counts before after place was now status sound_before sound_after adds h = record {
     served = Told-both later h.conns h.served;
     conns = Told-map (λ a b conns. adds.connections ∙ conns) h.conns;
     used_up = h.used_up;
     status_is = h.status_is;
     kind = h.kind;
+    hall_fault = h.hall_fault;
+    returned = h.returned;
   }
     where
       later : (a b : Links L) → before.connections ≡ conns_of (new_back a b) → Works octets read_faults write_faults before.seen (HasNoRoom before.seen) a b → Works octets read_faults write_faults after.seen (HasNoRoom after.seen) a b

@@ -4,6 +4,7 @@ use Rattle.mm_outside.specs.Octets.{Octets}
 use Rattle.mm_outside.specs.Causes.{Rose}
 use Rattle.mm_outside.specs.Told.{Told}
 use Rattle.mm_outside.specs.Hall.{Links}
+use Rattle.mm_outside.specs.HallCounts.{HallCounts}
 use Rattle.mm_outside.specs.declared.hall.Back.{Back}
 use Rattle.trace_text.specs.Texts.{trace}
 use Rattle.unit_registry.specs.Projects.{ProjectView}
@@ -14,7 +15,7 @@ use Rattle.mapper_server.specs.declared.serving.ServeError.{ServeError}
 use Rattle.mapper_server.specs.declared.serving.ServeError.TheVariants.{Memory}
 use Rattle.mapper_server.specs.Backs.{Works, conns_of, new_back}
 use Rattle.mapper_server.specs.Printing.{Prints}
-use Rattle.mapper_server.specs.Statuses.{IsLeast, Grew, statuses_of}
+use Rattle.mapper_server.specs.Statuses.{IsLeast, IsUpTo, Grew, statuses_of}
 
 -- ---- two lists, member by member
 
@@ -79,15 +80,28 @@ EndsWith {H} {L} hall_faults Counts before now backs status =
     Contains (statuses_of backs) status
     ⊎ ((status ≡ 4) × SomePair (λ (old new : H). Counts (hall_faults old) (hall_faults new)) before now)
 
--- the same, or a number that the printing of the trace ended with
+-- the number that the printing of a trace ended with
+abbrev pub EndsPrinting : (ℕ → ℕ → Type 0) → ℕ → ℕ → ℕ → Type 0
+EndsPrinting Counts sink_before sink_now status = (status ≡ 5) × Counts sink_before sink_now
+
+-- a number that a link, a hall or the printing ended with
 abbrev pub EndsServing : {H L : Type 0} → (H → ℕ) → (ℕ → ℕ → Type 0) → List H → List H → List (Back L) → ℕ → ℕ → ℕ → Type 0
 EndsServing hall_faults Counts before now backs sink_before sink_now status =
-    EndsWith hall_faults Counts before now backs status ⊎ ((status ≡ 5) × Counts sink_before sink_now)
+    EndsWith hall_faults Counts before now backs status ⊎ EndsPrinting Counts sink_before sink_now status
+
+-- the count of some hall has grown
+abbrev pub SomeGrew : {H : Type 0} → (H → ℕ) → List H → List H → Type 0
+SomeGrew hall_faults = SomePair (λ old new. Grew (hall_faults old) (hall_faults new))
+
+-- as many links were given back as were given
+pub record ReturnsAll (before now : HallCounts) : Type 0 where
+  pub as_many : now.back + before.given ≡ now.given + before.back
 
 module _ {H L : Type 0} (links : H → Option (Links L)) (hall_faults : H → ℕ) (octets : L → Option Octets) (read_faults write_faults : L → ℕ) where
   -- One history for all connections. It is printed. Each hall got back every link that it gave, served by this history.
   -- The links that had a connection are one for each connection of it. No hall can give a further link, but for a fault.
-  -- The status is the least above 0 that a link, a hall or the printing ended with.
+  -- The status is the least above 0 that a link, a hall or the printing ended with; a fault of a hall or of the sink counts
+  -- whatever the halls tell.
   pub record Serves (history : LedgerView) (before now : List H) (status sink_before sink_now : ℕ) (out_before out_now : Option (List ℕ)) : Type 0 where
     pub printed : Told (Prints (trace history.workers history.limit history.entries) sink_before sink_now) out_before out_now
     pub over : IsOver history
@@ -97,6 +111,8 @@ module _ {H L : Type 0} (links : H → Option (Links L)) (hall_faults : H → �
     pub status_is : Told (λ (old new : List (Links L)).
         IsLeast (EndsServing hall_faults Rose before now (new_backs old new) sink_before sink_now) (EndsServing hall_faults Grew before now (new_backs old new) sink_before sink_now) status)
         (told_all links before) (told_all links now)
+    pub hall_fault : SomeGrew hall_faults before now → IsUpTo 4 status
+    pub sink_fault : Grew sink_before sink_now → IsUpTo 5 status
 
 -- the halls come back as they were
 abbrev pub HandsBack : {H : Type 0} → Vec H Global → ServeError H → Type 0

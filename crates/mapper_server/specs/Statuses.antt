@@ -2,11 +2,14 @@
 use Rattle.std.specs.Prelude.{◌≡◌, ℕ, zero, suc, ◌≤◌, ◌<◌, min, List, ◌⊎◌, map}
 use Rattle.mm_outside.specs.declared.hall.Back.{Back}
 
--- The status is the least number above 0 of those that must count, where one of them does; some number that may count;
--- or 0, where none must.
+-- a status above 0 that is at most this number
+abbrev pub IsUpTo : ℕ → ℕ → Type 0
+IsUpTo most status = (0 < status) × (status ≤ most)
+
+-- The status is 0 or a number that may count. Where a number above 0 must count, the status is above 0 and at most that.
 pub record IsLeast (may must : ℕ → Type 0) (status : ℕ) : Type 0 where
   pub cause : (status ≡ 0) ⊎ may status
-  pub least : (other : ℕ) → 0 < other → must other → (0 < status) × (status ≤ other)
+  pub least : (other : ℕ) → 0 < other → must other → IsUpTo other status
 
 -- a status that serving ends with
 abbrev pub IsServingStatus : ℕ → Type 0

@@ -14,10 +14,10 @@ use Rattle.ruled_history.specs.declared.board.View.{View}
 use Rattle.ruled_history.specs.Views.{IsBare, first_view, with_entries}
 use Rattle.ruled_history.specs.Seats.{Shared, Sitting}
 use Rattle.mapper_server.specs.Backs.{IsReturned, Works, conns_of, new_back}
-use Rattle.mapper_server.specs.Headline.{EachPair, EndsWith, GivesNoMore, new_backs, told_all}
+use Rattle.mapper_server.specs.Headline.{EachPair, EndsWith, GivesNoMore, ReturnsAll, SomeGrew, new_backs, told_all}
 use Rattle.mapper_server.specs.Printing.{line_room}
 use Rattle.mapper_server.specs.Serving.{HasNoRoom}
-use Rattle.mapper_server.specs.Statuses.{IsLeast, IsServingStatus, Grew, statuses_of}
+use Rattle.mapper_server.specs.Statuses.{IsLeast, IsServingStatus, IsUpTo, Grew, statuses_of}
 
 -- the links of a hall were served in the history seen, those that had a connection as some of these
 pub record ServesAmong {L : Type 0} (octets : L → Option Octets) (read_faults write_faults : L → ℕ) (seen : LedgerView) (connections : List ℕ) (before now : Links L) : Type 0 where
@@ -46,7 +46,7 @@ pub record HasWorked {L : Type 0} (octets : L → Option Octets) (read_faults wr
 abbrev pub EndsLeast : {H L : Type 0} → (H → ℕ) → List H → List H → List (Back L) → ℕ → Type 0
 EndsLeast hall_faults before now backs status = IsLeast (EndsWith hall_faults Rose before now backs) (EndsWith hall_faults Grew before now backs) status
 
-module _ {H L : Type 0} (links : H → Option (Links L)) (hall_faults : H → ℕ) (octets : L → Option Octets) (read_faults write_faults : L → ℕ) where
+module _ {H L : Type 0} (links : H → Option (Links L)) (hall_faults : H → ℕ) (counts : H → HallCounts) (octets : L → Option Octets) (read_faults write_faults : L → ℕ) where
   -- a worker served the links of one hall in the history seen, as these connections
   pub record WorksAt (seen : LedgerView) (connections : List ℕ) (before now : H) (status : ℕ) : Type 0 where
     pub served : Told (Works octets read_faults write_faults seen (HasNoRoom seen)) (links before) (links now)
@@ -54,6 +54,8 @@ module _ {H L : Type 0} (links : H → Option (Links L)) (hall_faults : H → �
     pub used_up : GivesNoMore links hall_faults before now
     pub status_is : Told (λ (old new : Links L). EndsLeast hall_faults (before ∷ []) (now ∷ []) (new_back old new) status) (links before) (links now)
     pub kind : IsServingStatus status
+    pub hall_fault : Grew (hall_faults before) (hall_faults now) → IsUpTo 4 status
+    pub returned : ReturnsAll (counts before) (counts now)
 
   -- workers served the links of all halls in the history that their joined seat has seen
   pub record AllWork (opening : LedgerView) (after : View) (before now : List H) (status : ℕ) : Type 0 where
@@ -62,6 +64,8 @@ module _ {H L : Type 0} (links : H → Option (Links L)) (hall_faults : H → �
     pub used_up : EachPair (GivesNoMore links hall_faults) before now
     pub status_is : Told (λ (old new : List (Links L)). EndsLeast hall_faults before now (new_backs old new) status) (told_all links before) (told_all links now)
     pub kind : IsServingStatus status
+    pub hall_fault : SomeGrew hall_faults before now → IsUpTo 4 status
+    pub returned : EachPair (λ (old new : H). ReturnsAll (counts old) (counts new)) before now
 
 -- Workers may begin at a bare seat of a registry that isn't metered and is of the project: the seat has a worker for each
 -- hall, there is a session for each, and no hall has got back more than it gave.
@@ -93,7 +97,3 @@ pub record IsReady {S : Type 0} (project : ProjectView) (workers limit : ℕ) (r
   pub sessions_are : sessions ≡ workers
   pub empty : line.octets ≡ []
   pub room : line_room ≤ line.spare
-
--- the number that the printing of a trace ends with; `Counts` says when the sink's count of faults gives it
-abbrev pub EndsPrinting : (ℕ → ℕ → Type 0) → ℕ → ℕ → ℕ → Type 0
-EndsPrinting Counts sink_before sink_now status = (status ≡ 5) × Counts sink_before sink_now

@@ -85,7 +85,7 @@ fn got_back(hall: &MemHall, text: &[u8]) -> bool {
     }
 }
 
-/// Whether two halls with these texts come back with these replies, after a history of 11 entries that was printed.
+/// Whether two halls with these texts come back with these replies, after a history of 13 entries that was printed.
 fn serves_so<R: Threads + Wait + Sync>(
     rt: &R,
     alloc: Global,

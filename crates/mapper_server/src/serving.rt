@@ -9,11 +9,11 @@ ghost use Rattle.registry_core.specs.Ledgers.{LedgerView};
 ghost use Rattle.ruled_history.specs.Views.{IsBare, with_entries};
 ghost use Rattle.trace_text.specs.Texts.{trace};
 ghost use Rattle.mapper_server.specs.Complete.{NothingHinders};
-ghost use Rattle.mapper_server.specs.Headline.{HandsBack, IsOf, Serves};
+ghost use Rattle.mapper_server.specs.Headline.{EachPair, EndsPrinting, HandsBack, IsOf, ReturnsAll, Serves};
 ghost use Rattle.mapper_server.specs.Limits.{most_entries, most_halls};
 ghost use Rattle.mapper_server.specs.Printing.{Prints, line_room};
 ghost use Rattle.mapper_server.specs.Statuses.{Grew, IsLeast, IsServingStatus};
-ghost use Rattle.mapper_server.specs.Workers.{AllWork, EndsPrinting, IsLeft, IsReady, MayWork, WorksAt};
+ghost use Rattle.mapper_server.specs.Workers.{AllWork, IsLeft, IsReady, MayWork, WorksAt};
 
 use crate::printing::print_trace;
 use crate::worker::{less_of, work};
@@ -81,7 +81,7 @@ fn work_at<R: Wait, H: Hall>(
     requires project { registry.now.opening.ledger.project ≡ project.now }
     requires given { (H.counts hall).back ≤ (H.counts hall).given }
     ensures left { IsLeft seat result.seat }
-    ensures works { WorksAt H.links H.faults H.Link.octets H.Link.read_faults H.Link.write_faults (with_entries registry.now.opening.ledger result.seat.knows.seen) result.seat.knows.connections hall result.hall result.status }
+    ensures works { WorksAt H.links H.faults H.counts H.Link.octets H.Link.read_faults H.Link.write_faults (with_entries registry.now.opening.ledger result.seat.knows.seen) result.seat.knows.connections hall result.hall result.status }
 {
     let mut session = session;
     let mut hall = hall;
@@ -112,7 +112,7 @@ where
     requires send { IsSend H.row × IsSend H.Link.row }
     requires ready { MayWork H.counts registry.now project.now seat (vec_len sessions) halls.items }
     ensures left { IsLeft seat result.seat }
-    ensures work { AllWork H.links H.faults H.Link.octets H.Link.read_faults H.Link.write_faults registry.now.opening.ledger result.seat.knows halls.items result.halls.items result.status }
+    ensures work { AllWork H.links H.faults H.counts H.Link.octets H.Link.read_faults H.Link.write_faults registry.now.opening.ledger result.seat.knows halls.items result.halls.items result.status }
     ensures room { vec_capacity result.halls ≡ vec_capacity halls }
 {
     let mut sessions = sessions;
@@ -160,7 +160,7 @@ where
     requires some { 1 ≤ vec_len halls }
     requires room { vec_len halls < vec_capacity halls }
     ensures left { IsLeft seat result.seat }
-    ensures work { AllWork H.links H.faults H.Link.octets H.Link.read_faults H.Link.write_faults registry.now.opening.ledger result.seat.knows (halls.items ++ hall ∷ []) result.halls.items result.status }
+    ensures work { AllWork H.links H.faults H.counts H.Link.octets H.Link.read_faults H.Link.write_faults registry.now.opening.ledger result.seat.knows (halls.items ++ hall ∷ []) result.halls.items result.status }
     ensures room { vec_capacity result.halls ≡ vec_capacity halls }
 {
     let (rest, last) = registry.split(seat, 1, 0);
@@ -170,13 +170,13 @@ where
             requires sync { IsSync R.row × IsSend H.row × IsSend H.Link.row }
             requires ready { MayWork H.counts registry.now project.now rest (vec_len sessions) halls.items }
             ensures left { IsLeft rest result.seat }
-            ensures work { AllWork H.links H.faults H.Link.octets H.Link.read_faults H.Link.write_faults registry.entry.now.opening.ledger result.seat.knows halls.items result.halls.items result.status }
+            ensures work { AllWork H.links H.faults H.counts H.Link.octets H.Link.read_faults H.Link.write_faults registry.entry.now.opening.ledger result.seat.knows halls.items result.halls.items result.status }
             ensures room { vec_capacity result.halls ≡ vec_capacity halls }
         { work_all(rt, registry, bell, project, rest, sessions, halls) },
         || -> Worked<H>
             requires ready { MayWork H.counts registry.now project.now last 1 (hall ∷ []) }
             ensures left { IsLeft last result.seat }
-            ensures works { WorksAt H.links H.faults H.Link.octets H.Link.read_faults H.Link.write_faults (with_entries registry.entry.now.opening.ledger result.seat.knows.seen) result.seat.knows.connections hall result.hall result.status }
+            ensures works { WorksAt H.links H.faults H.counts H.Link.octets H.Link.read_faults H.Link.write_faults (with_entries registry.entry.now.opening.ledger result.seat.knows.seen) result.seat.knows.connections hall result.hall result.status }
         { work_at(rt, registry, bell, project, last, session, hall) },
     );
     let mut halls = all.halls;
@@ -282,6 +282,7 @@ where
     ensures complete { IfOk result (λ served. NothingHinders H.links H.faults H.Link.octets H.Link.read_faults H.Link.write_faults project.now (vec_len halls) entries halls.items served.halls.items
         (K.faults out.old) (K.faults out.new) → served.status ≡ 0) }
     ensures kind { IfOk result (λ served. IsServingStatus served.status) }
+    ensures returned { IfOk result (λ served. EachPair (λ old new. ReturnsAll (H.counts old) (H.counts new)) halls.items served.halls.items) }
     ensures memory { IfErr result (λ error. HandsBack halls error × (out.new ≡ out.old)) }
 {
     serve_halls(rt, alloc, project, entries, halls, out)
@@ -307,6 +308,7 @@ where
         × Serves H.links H.faults H.Link.octets H.Link.read_faults H.Link.write_faults history halls.items served.halls.items served.status
         (K.faults out.old) (K.faults out.new) (K.written out.old) (K.written out.new)) }
     ensures kind { IfOk result (λ served. IsServingStatus served.status) }
+    ensures returned { IfOk result (λ served. EachPair (λ old new. ReturnsAll (H.counts old) (H.counts new)) halls.items served.halls.items) }
     ensures memory { IfErr result (λ error. HandsBack halls error × (out.new ≡ out.old)) }
 {
     let workers = halls.len() as u32;
@@ -333,6 +335,7 @@ where
     requires ready { IsReady project.now workers limit ready.registry ready.seat (vec_len ready.sessions) ready.line }
     requires unused { All (λ hall. (H.counts hall).back ≡ 0) halls.items }
     ensures kind { IsServingStatus result.status }
+    ensures returned { EachPair (λ old new. ReturnsAll (H.counts old) (H.counts new)) halls.items result.halls.items }
     ensures headline { (history : LedgerView) × IsOf project.now workers limit result.entries history
         × Serves H.links H.faults H.Link.octets H.Link.read_faults H.Link.write_faults history halls.items result.halls.items result.status
         (K.faults out.old) (K.faults out.new) (K.written out.old) (K.written out.new) }

@@ -149,7 +149,7 @@ where
     requires bare { (D.tells desk.old).connections ≡ [] }
     requires worker { (D.tells desk.old).opened + (D.tells desk.old).dones < (D.tells desk.old).share }
     requires given { (H.counts hall.old).back ≤ (H.counts hall.old).given }
-    ensures works { WorksAt H.links H.faults H.Link.octets H.Link.read_faults H.Link.write_faults (D.tells desk.new).seen (D.tells desk.new).connections hall.old hall.new result }
+    ensures works { WorksAt H.links H.faults H.counts H.Link.octets H.Link.read_faults H.Link.write_faults (D.tells desk.new).seen (D.tells desk.new).connections hall.old hall.new result }
     ensures others { LeavesOthers (D.tells desk.old) (D.tells desk.new) }
     ensures sound { IsSound (D.tells desk.new) }
     ensures opened { (D.tells desk.new).opened ≡ (D.tells desk.old).opened }
@@ -179,7 +179,7 @@ where
     requires bare { (D.tells desk.old).connections ≡ [] }
     requires worker { (D.tells desk.old).opened + (D.tells desk.old).dones < (D.tells desk.old).share }
     requires given { (H.counts hall.old).back ≤ (H.counts hall.old).given }
-    ensures works { WorksAt H.links H.faults H.Link.octets H.Link.read_faults H.Link.write_faults (D.tells desk.new).seen (D.tells desk.new).connections hall.old hall.new result }
+    ensures works { WorksAt H.links H.faults H.counts H.Link.octets H.Link.read_faults H.Link.write_faults (D.tells desk.new).seen (D.tells desk.new).connections hall.old hall.new result }
     ensures others { LeavesOthers (D.tells desk.old) (D.tells desk.new) }
     ensures sound { IsSound (D.tells desk.new) }
     ensures opened { (D.tells desk.new).opened ≡ (D.tells desk.old).opened }

@@ -38,6 +38,6 @@ work_beside-push_reserved-requires g t c =
 
 pub work_beside-returns-clause-work : goal.work_beside-returns-clause-work
 work_beside-returns-clause-work g t c =
-    more_work g.H.Hall.links g.H.Hall.faults g.H.Link.Link.octets g.H.Link.Link.read_faults g.H.Link.Link.write_faults c.args.registry.now.opening.ledger c.join-all.result.0.seat.knows c.join-all.result.1.seat.knows c.join.result.knows
+    more_work g.H.Hall.links g.H.Hall.faults g.H.Hall.counts g.H.Link.Link.octets g.H.Link.Link.read_faults g.H.Link.Link.write_faults c.args.registry.now.opening.ledger c.join-all.result.0.seat.knows c.join-all.result.1.seat.knows c.join.result.knows
     c.args.halls.items c.join-all.result.0.halls.items c.args.hall c.join-all.result.1.hall c.join-all.result.0.status c.join-all.result.1.status c.push_reserved.new.self.items c.less_of.result c.push_reserved.ensures.items c.less_of.ensures
     c.join.ensures.left c.join.ensures.right (ap (λ (s : Sitting). s.knows.connections) c.join.ensures.both) c.join.ensures.knows.ledger c.join-all.ensures.first.1.0 c.join-all.ensures.second.1

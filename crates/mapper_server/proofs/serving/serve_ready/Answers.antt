@@ -23,6 +23,9 @@ returns-clause-kind g c =
     less_serves c.work_all-seat.result.status c.print_book-printed.result c.less_of.result c.less_of.ensures c.work_all-seat.ensures.work.kind
     (printing_serves c.print_book-printed.result (g.K.Sink.faults c.args.out.now) (g.K.Sink.faults c.print_book-printed.new.out) c.print_book-printed.ensures.status)
 
+pub returns-clause-returned : goal.returns-clause-returned
+returns-clause-returned g c = c.work_all-seat.ensures.work.returned
+
 pub returns-clause-headline : goal.returns-clause-headline
 returns-clause-headline g c =
     let opening = c.args.ready.registry.opening.ledger in
@@ -35,8 +38,8 @@ returns-clause-headline g c =
     let write_faults = g.H.Link.Link.write_faults in
     let counted = ap length c.entries.ensures in (
       history,
-      is_of links faults octets read_faults write_faults c.args.project.now c.args.workers c.args.limit (length c.entries.result.now) opening history c.requires.ready.opening_is stands counted,
-      has_served links faults octets read_faults write_faults c.args.project.now c.args.workers c.args.limit (length c.entries.result.now) opening history c.requires.ready.opening_is stands counted
+      is_of links faults g.H.Hall.counts octets read_faults write_faults c.args.project.now c.args.workers c.args.limit (length c.entries.result.now) opening history c.requires.ready.opening_is stands counted,
+      has_served links faults g.H.Hall.counts octets read_faults write_faults c.args.project.now c.args.workers c.args.limit (length c.entries.result.now) opening history c.requires.ready.opening_is stands counted
           c.args.ready.seat c.work_all-seat.result.seat c.args.halls.items c.work_all-seat.result.halls.items c.work_all-seat.result.status c.print_book-printed.result c.less_of.result
           (g.K.Sink.faults c.args.out.now) (g.K.Sink.faults c.print_book-printed.new.out) (g.K.Sink.written c.args.out.now) (g.K.Sink.written c.print_book-printed.new.out)
           c.requires.ready.knows_is c.work_all-seat.ensures.left c.close-book.ensures.seen c.close-book.ensures.places c.close-book.ensures.opened c.close-book.ensures.dones c.close-book.ensures.knows

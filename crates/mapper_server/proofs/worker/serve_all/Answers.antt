@@ -19,6 +19,7 @@ loop-init g c = record {
   opened = refl;
   dones = refl;
   kind = none_serves;
+  returned = record { as_many = omega arith };
   given = c.requires.given;
   faults = refl;
   worked = Told-same (λ x. worked_none g.H.Link.Link.octets g.H.Link.Link.read_faults g.H.Link.Link.write_faults (g.D.Desk.tells c.args.desk.now).seen (g.D.Desk.tells c.args.desk.now).connections x c.requires.bare);
@@ -47,6 +48,7 @@ loop-preserved g c =
       opened = next.opened ∙ inv.opened;
       dones = next.dones ∙ inv.dones;
       kind = less_serves c.loop.status c.serve_next-next.result c.less_of-status.result c.less_of-status.ensures inv.kind next.kind;
+      returned = record { as_many = (let returned = inv.returned.as_many in omega (arith, returned, one_given, same_back, one_back, same_given)) };
       given = omega (arith, given, one_given, same_back, one_back, same_given);
       faults = next.faults ∙ c.in-Link.ensures.cause.kept ∙ inv.faults;
       worked = rw c.less_of-status.ensures
@@ -57,9 +59,9 @@ loop-preserved g c =
 
 pub returns-in-NoMore-clause-works : goal.returns-in-NoMore-clause-works
 returns-in-NoMore-clause-works g c =
-    works_out g.H.Link.Link.octets g.H.Link.Link.read_faults g.H.Link.Link.write_faults g.H.Hall.links g.H.Hall.faults (g.D.Desk.tells c.loop.desk).seen (g.D.Desk.tells c.loop.desk).connections c.loop.status c.args.hall.now c.loop.hall c.accept.new.self c.loop.invariant.worked c.loop.invariant.faults c.loop.invariant.kind c.in-NoMore.ensures.links c.in-NoMore.ensures.cause.kept
+    works_out g.H.Link.Link.octets g.H.Link.Link.read_faults g.H.Link.Link.write_faults g.H.Hall.links g.H.Hall.faults g.H.Hall.counts (g.D.Desk.tells c.loop.desk).seen (g.D.Desk.tells c.loop.desk).connections c.loop.status c.args.hall.now c.loop.hall c.accept.new.self c.loop.invariant.worked c.loop.invariant.faults (record { as_many = (let returned = c.loop.invariant.returned.as_many in let given = ap (λ n. n.given) c.in-NoMore.ensures.counts in let back = ap (λ n. n.back) c.in-NoMore.ensures.counts in omega (arith, returned, given, back)) }) c.loop.invariant.kind c.in-NoMore.ensures.links c.in-NoMore.ensures.cause.kept
 
 pub returns-in-Failed-clause-works : goal.returns-in-Failed-clause-works
 returns-in-Failed-clause-works g c =
     rw c.less_of.ensures
-    (works_failed g.H.Link.Link.octets g.H.Link.Link.read_faults g.H.Link.Link.write_faults g.H.Hall.links g.H.Hall.faults (g.D.Desk.tells c.loop.desk).seen (g.D.Desk.tells c.loop.desk).connections c.loop.status c.args.hall.now c.loop.hall c.accept.new.self c.loop.invariant.worked c.loop.invariant.faults c.loop.invariant.kind c.in-Failed.ensures.links c.in-Failed.ensures.cause.failed)
+    (works_failed g.H.Link.Link.octets g.H.Link.Link.read_faults g.H.Link.Link.write_faults g.H.Hall.links g.H.Hall.faults g.H.Hall.counts (g.D.Desk.tells c.loop.desk).seen (g.D.Desk.tells c.loop.desk).connections c.loop.status c.args.hall.now c.loop.hall c.accept.new.self c.loop.invariant.worked c.loop.invariant.faults (record { as_many = (let returned = c.loop.invariant.returned.as_many in let given = ap (λ n. n.given) c.in-Failed.ensures.counts in let back = ap (λ n. n.back) c.in-Failed.ensures.counts in omega (arith, returned, given, back)) }) c.loop.invariant.kind c.in-Failed.ensures.links c.in-Failed.ensures.cause.failed)

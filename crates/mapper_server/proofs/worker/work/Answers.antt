@@ -9,7 +9,7 @@ use Rattle.mapper_server.proofs.worker.work.Goals as goal
 pub returns-clause-works : goal.returns-clause-works
 returns-clause-works g c =
     let adds = c.done.ensures.done in
-    works_done g.H.Link.Link.octets g.H.Link.Link.read_faults g.H.Link.Link.write_faults g.H.Hall.links g.H.Hall.faults (g.D.Desk.tells c.serve_all-status.new.desk) (g.D.Desk.tells c.done.new.self) adds.0 c.args.hall.now c.serve_all-status.new.hall c.serve_all-status.result c.serve_all-status.ensures.sound c.done.ensures.sound adds.1 c.serve_all-status.ensures.works
+    works_done g.H.Link.Link.octets g.H.Link.Link.read_faults g.H.Link.Link.write_faults g.H.Hall.links g.H.Hall.faults g.H.Hall.counts (g.D.Desk.tells c.serve_all-status.new.desk) (g.D.Desk.tells c.done.new.self) adds.0 c.args.hall.now c.serve_all-status.new.hall c.serve_all-status.result c.serve_all-status.ensures.sound c.done.ensures.sound adds.1 c.serve_all-status.ensures.works
 
 pub returns-clause-others : goal.returns-clause-others
 returns-clause-others g c =
