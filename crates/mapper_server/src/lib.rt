@@ -26,6 +26,8 @@ pub use single::pipe;
 pub use worker::{ServedConn, conn_status, serve_link, work};
 
 #[cfg(test)]
+mod gate_tests;
+#[cfg(test)]
 mod law_tests;
 #[cfg(test)]
 mod serve_tests;
