@@ -7,9 +7,10 @@ same lines out of what `modmap replay` printed of the trace, and `eight.py proje
 
 import os
 import signal
-import socket
 import sys
 import time
+
+from clients import connect
 
 PROJECT = """modmap-project 1
 repo gcm
@@ -35,24 +36,6 @@ COMPILERS = {
     'a.cc': ['MODULE-EXPORT a ;\nMODULE-IMPORT d', 'MODULE-COMPILED a'],
     'd.cc': ['MODULE-EXPORT d', 'MODULE-COMPILED d'],
 }
-
-
-def connect(address):
-    """A connection to the address, which may begin to listen a little later."""
-    kind, place = address.split(':', 1)
-    if kind == 'tcp':
-        host, port = place.rsplit(':', 1)
-        place = (host, int(port))
-    for _ in range(200):
-        link = socket.socket(socket.AF_UNIX if kind == 'unix' else socket.AF_INET)
-        link.settimeout(30)
-        try:
-            link.connect(place)
-            return link
-        except (FileNotFoundError, ConnectionRefusedError):
-            link.close()
-            time.sleep(0.1)
-    sys.exit('nobody listens')
 
 
 def compile_unit(source, address, told):
