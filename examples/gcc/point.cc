@@ -1,0 +1,6 @@
+export module geometry:point;
+
+export struct Point {
+    double x;
+    double y;
+};
