@@ -1,5 +1,5 @@
 -- The first unit with a word, and the number of a word in a list.
-use Rattle.std.proofs.Common.{◌≡◌, ◌≢◌, ℕ, ◌+◌, ◌<◌, zero, suc, Bool, true, false, cond, eqb, not, ◌&&◌, List, [], ◌∷◌, ◌++◌, length, map, Option, Some, None, refl, sym, ap, subst, ◌∙◌, arith}
+use Rattle.std.proofs.Common.{◌≡◌, ◌≢◌, ℕ, ◌+◌, ◌<◌, zero, suc, Bool, true, false, cond, eqb, not, ◌&&◌, List, [], ◌∷◌, ◌++◌, length, Option, Some, None, refl, sym, ap, subst, ◌∙◌, arith}
 use Rattle.std.specs.Prelude.{slice_get, IfSome}
 use Rattle.std.specs.List.{position_from}
 use Rattle.std.specs.Option.{option_map_or}
@@ -7,7 +7,6 @@ use Rattle.std.specs.Str.{bytes_eq}
 use Rattle.std.specs.Map.{lookup}
 use Rattle.std.proofs.lemmas.Bool.{both_ways, and_parts, and_right, ne_eqb}
 use Rattle.std.proofs.lemmas.Option.{slice_get_within}
-use Rattle.std.proofs.lemmas.List.{map-append}
 use Rattle.std.proofs.lemmas.Slice.Eq.{bytes_eq-Decides}
 use Rattle.unit_registry.specs.declared.unit.Declared.{Declared}
 use Rattle.unit_registry.specs.Projects.{has_word, find_by}
@@ -128,16 +127,10 @@ number_in-push (entry ∷ entries) word n q = by (bytes_eq q entry.0) (number_in
     by true again = refl
     by false again = again
 
--- entries as they are seen, by what their keys hold
-abbrev pub seen : {K : Type 0} → (K → List ℕ) → List (K × ℕ) → List (List ℕ × ℕ)
-seen items entries = map (λ entry. (items entry.0, entry.1)) entries
-
-pub lookup-number : {K : Type 0} (items : K → List ℕ) (q : List ℕ) (entries : List (K × ℕ)) → lookup (λ key. bytes_eq q (items key)) entries ≡ number_in (seen items entries) q
-lookup-number items q [] = refl
-lookup-number items q (entry ∷ entries) = ap (λ r. cond (bytes_eq q (items entry.0)) (Some entry.1) r) (lookup-number items q entries)
-
-pub seen-push : {K : Type 0} (items : K → List ℕ) (entries : List (K × ℕ)) (key : K) (n : ℕ) → seen items (entries ++ (key, n) ∷ []) ≡ seen items entries ++ (items key, n) ∷ []
-seen-push items entries key n = map-append (λ entry. (items entry.0, entry.1)) entries ((key, n) ∷ [])
+-- what a map finds by a word
+pub lookup-number : (q : List ℕ) (entries : List (List ℕ × ℕ)) → lookup (bytes_eq q) entries ≡ number_in entries q
+lookup-number q [] = refl
+lookup-number q (entry ∷ entries) = ap (λ r. cond (bytes_eq q entry.0) (Some entry.1) r) (lookup-number q entries)
 
 -- the numbers of the units' words, with those of one unit more
 pub number_in-with : (word_of : Declared → List ℕ) (units : List Declared) (unit : Declared) (entries : List (List ℕ × ℕ)) (word : List ℕ)

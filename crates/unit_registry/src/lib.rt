@@ -21,6 +21,7 @@ mod reader;
 mod reason;
 mod repo_path;
 mod unit;
+mod word;
 
 pub use act::Act;
 pub use kind::Kind;

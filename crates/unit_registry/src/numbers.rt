@@ -3,6 +3,7 @@
 ghost use Rattle.std.specs.Prelude.{◌≡◌, [], None, OnOk, OnErr};
 ghost use Rattle.unit_registry.specs.Numbers.{number_in, with_number};
 
+use crate::word::{Asked, Word};
 use indexmap::IndexMap;
 use mm_outside::Memory;
 use std::alloc::Global;
@@ -11,15 +12,15 @@ use std::marker::Model;
 /// Words with their numbers. Contracts see them as pairs in order.
 #[derive(Debug, Drop)]
 pub(crate) struct Numbers {
-    numbers: IndexMap<Vec<u8>, u32>,
+    numbers: IndexMap<Word, u32>,
 }
 
 impl Model for Numbers {
-    ghost use Rattle.std.specs.Prelude.{List, ℕ, map};
+    ghost use Rattle.std.specs.Prelude.{List, ℕ};
 
     ghost Value = { List (List ℕ × ℕ) };
 
-    ghost view = { λ kept. map (λ entry. (entry.0.items, entry.1)) kept.numbers.entries };
+    ghost view = { λ kept. kept.numbers.entries };
 }
 
 impl Numbers {
@@ -36,7 +37,7 @@ impl Numbers {
     pub(crate) fn find(&self, word: &[u8]) -> Option<u32>
         ensures { result ≡ number_in self.now word.now }
     {
-        self.numbers.get(word).copied()
+        self.numbers.get(Asked { octets: word }).copied()
     }
 
     /// Adds a word that has no number yet. An empty word gets none.
@@ -48,7 +49,7 @@ impl Numbers {
         if word.is_empty() {
             return Ok(());
         }
-        let key = Vec::from_slice(alloc, word)?;
+        let key = Word::of(alloc, word)?;
         self.numbers.insert(key, number)?;
         Ok(())
     }

@@ -1,6 +1,4 @@
-use Rattle.std.proofs.Common.{ℕ, ap, ◌∙◌}
-use Rattle.std.specs.declared.vec.Vec.{Vec}
-use Rattle.std.specs.declared.alloc.Global.{Global}
+use Rattle.std.proofs.Common.{ap, ◌∙◌}
 use Rattle.unit_registry.specs.Numbers.{number_in}
 use Rattle.unit_registry.proofs.Found.{lookup-number}
 use Rattle.unit_registry.proofs.numbers.Numbers.find.Goals as goal
@@ -9,5 +7,5 @@ pub returns : goal.returns
 returns c =
     c.copied.ensures
     ∙ (c.get.ensures.value
-    ∙ (lookup-number (λ (key : Vec ℕ Global). key.items) c.args.word.now c.self.inside.numbers.entries
+    ∙ (lookup-number c.args.word.now c.self.inside.numbers.entries
     ∙ ap (λ entries. number_in entries c.args.word.now) c.self.view_is))
