@@ -1,12 +1,13 @@
-//! A bell at which threads wait.
+//! A bell at which threads wait, and the gate at which desks do.
 
-use std::sync::{Condvar, Mutex, Wait};
+use std::sync::{Condvar, Mutex, MutexGuard, Wait};
 
 /// A count that threads raise and wait for. It promises nothing: not that a ring wakes anybody, nor that a wait ends.
 #[derive(Drop)]
 pub struct Bell {
     count: Mutex<u64>,
     rung: Condvar,
+    gate: Mutex<()>,
 }
 
 impl Bell {
@@ -15,7 +16,14 @@ impl Bell {
         Bell {
             count: Mutex::new(0),
             rung: Condvar::new(),
+            gate: Mutex::new(()),
         }
+    }
+
+    /// Waits until no other desk of this bell has a turn or waits for one. Desks come to the gate before they draw a ticket,
+    /// since a thread that sleeps here costs the others nothing, and one that looks for its turn again and again does.
+    pub(crate) fn come_in<R: Wait>(&self, rt: &R) -> MutexGuard<'_, ()> {
+        self.gate.lock(rt)
     }
 
     /// Raises the count by one, modulo 2^64, and wakes those that wait.

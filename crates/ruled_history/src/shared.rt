@@ -1,6 +1,6 @@
 //! The desk of a thread that shares the history with others.
 
-ghost use Rattle.std.specs.Prelude.{◌≡◌, ◌≤◌, false, IfOk, IfErr, IsOk, IsTrue, IsFalse, Contains};
+ghost use Rattle.std.specs.Prelude.{◌≡◌, ◌≤◌, ◌<◌, false, IfOk, IfErr, IsOk, IsTrue, IsFalse, Contains};
 ghost use Rattle.histories.specs.Answered.{stored_unit};
 ghost use Rattle.histories.specs.Entries.{has_its_unit};
 ghost use Rattle.histories.specs.Histories.{is_out_of_range};
@@ -8,7 +8,8 @@ ghost use Rattle.histories.specs.Counts.{Asks, effect_of};
 ghost use Rattle.registry_core.specs.Ledgers.{IsFull, entry, is_open_in};
 ghost use Rattle.registry_core.specs.Shelves.{ComesWith};
 ghost use Rattle.registry_core.specs.Desks.{Adds, Looks, IsSound, TakesNoTurn};
-ghost use Rattle.ruled_history.specs.Seats.{IsSame, IsServed, IsServedIf, told_seated};
+ghost use Rattle.ruled_history.specs.Runs.{StartsWith};
+ghost use Rattle.ruled_history.specs.Seats.{IsSame, IsServed, IsServedIf, IsServing, StillOpen, told_seated};
 ghost use Rattle.ruled_history.specs.Views.{at_stage, Knows};
 ghost use Rattle.ruled_history.specs.declared.board.Stage.TheVariants.{Idle};
 
@@ -22,7 +23,7 @@ use crate::turn::{pass_turn, take_turn};
 use mm_outside::Memory;
 use registry_core::{Answer, Desk, Full, Leaving, Shelf};
 use std::marker::{Brand, Model};
-use std::sync::Wait;
+use std::sync::{MutexGuard, Wait};
 use unit_registry::Act;
 
 /// The desk at a seat of a registry. Each call of it takes a turn with the book, and may wait for that; nothing
@@ -40,6 +41,8 @@ pub struct SharedDesk<'a, R: Wait, S: Shelf> {
     serving: bool,
     /// Whether the bell is to be rung once the turn is passed.
     rings: bool,
+    /// What keeps other desks at the gate while it is the desk's turn.
+    gate: Option<MutexGuard<'a, ()>>,
 }
 
 impl<'a, R: Wait, S: Shelf> Model for SharedDesk<'a, R, S> {
@@ -80,6 +83,7 @@ impl<'a, R: Wait, S: Shelf> SharedDesk<'a, R, S> {
             keeps: false,
             serving: false,
             rings: false,
+            gate: None,
         }
     }
 
@@ -97,6 +101,7 @@ impl<'a, R: Wait, S: Shelf> SharedDesk<'a, R, S> {
             keeps: _,
             serving: _,
             rings: _,
+            gate: _,
         } = desk;
         Seat {
             badge: place.into_badge(),
@@ -115,13 +120,38 @@ impl<'a, R: Wait, S: Shelf> SharedDesk<'a, R, S> {
             keeps,
             serving,
             rings,
+            gate,
         } = self;
         *keeps = false;
         if *serving {
-            *rings = end_turn(*rt, *board, place, bell, false, *rings);
+            *rings = end_turn(*rt, *board, place, bell, gate, false, *rings);
             *serving = false;
         }
     }
+}
+
+/// Comes in at the gate and waits for the turn, unless it is the seat's already.
+fn begin_turn<'a, R: Wait, S: Shelf>(
+    rt: &R,
+    board: &Board<S>,
+    place: &mut Place<S>,
+    bell: &'a Bell,
+    gate: &mut Option<MutexGuard<'a, ()>>,
+    serving: bool,
+)
+    requires seat { place.old.table_id ≡ board.now.table.shared.table_id }
+    requires turn { IsServedIf serving S.kept S.held board.now.table.shared.key.opening.value place.old.me }
+    requires share { 0 < place.old.me.0.share }
+    ensures seat { IsSame place.old place.new }
+    ensures serving { IsServing place.old.me.0 place.new.me.0 }
+    ensures seen { StartsWith place.new.me.0.seen place.old.me.0.seen }
+    ensures still { StillOpen board.now.table.shared.key.opening.value.ledger place.new.me.0.connections place.old.me.0.seen place.new.me.0.seen }
+    ensures served { IsServed S.kept S.held board.now.table.shared.key.opening.value place.new.me }
+{
+    if !serving {
+        *gate = Some(bell.come_in(rt));
+    }
+    take_turn(rt, board, place, serving);
 }
 
 /// Passes the turn, and then rings where that is owed, unless the turn is kept. Whether the ring is still owed.
@@ -130,6 +160,7 @@ fn end_turn<R: Wait, S: Shelf>(
     board: &Board<S>,
     place: &mut Place<S>,
     bell: &Bell,
+    gate: &mut Option<MutexGuard<'_, ()>>,
     keeps: bool,
     rings: bool,
 ) -> bool
@@ -144,6 +175,7 @@ fn end_turn<R: Wait, S: Shelf>(
         return rings;
     }
     pass_turn(board, place);
+    *gate = None;
     if rings {
         bell.ring(rt);
     }
@@ -183,11 +215,12 @@ where
             keeps,
             serving,
             rings,
+            gate,
         } = self;
-        take_turn(*rt, *board, place, *serving);
+        begin_turn(*rt, *board, place, *bell, gate, *serving);
         let opened = open_served(*board, place);
         let heard = has_answered(*board, place, opened.is_ok());
-        *rings = end_turn(*rt, *board, place, bell, *keeps, *rings || heard);
+        *rings = end_turn(*rt, *board, place, bell, gate, *keeps, *rings || heard);
         *serving = *keeps;
         opened
     }
@@ -215,11 +248,12 @@ where
             keeps,
             serving,
             rings,
+            gate,
         } = self;
-        take_turn(*rt, *board, place, *serving);
+        begin_turn(*rt, *board, place, *bell, gate, *serving);
         let asked = ask_served(*board, place, conn, act, item);
         let heard = has_answered(*board, place, asked.is_ok());
-        *rings = end_turn(*rt, *board, place, bell, *keeps, *rings || heard);
+        *rings = end_turn(*rt, *board, place, bell, gate, *keeps, *rings || heard);
         *serving = *keeps;
         asked
     }
@@ -233,10 +267,11 @@ where
             keeps,
             serving,
             rings,
+            gate,
         } = self;
-        take_turn(*rt, *board, place, *serving);
+        begin_turn(*rt, *board, place, *bell, gate, *serving);
         let reply = look_served(*board, place, at);
-        *rings = end_turn(*rt, *board, place, bell, *keeps, *rings);
+        *rings = end_turn(*rt, *board, place, bell, gate, *keeps, *rings);
         *serving = *keeps;
         reply
     }
@@ -250,11 +285,12 @@ where
             keeps,
             serving,
             rings,
+            gate,
         } = self;
-        take_turn(*rt, *board, place, *serving);
+        begin_turn(*rt, *board, place, *bell, gate, *serving);
         leave_served(*board, place, conn, how);
         let heard = has_answered(*board, place, true);
-        *rings = end_turn(*rt, *board, place, bell, *keeps, *rings || heard);
+        *rings = end_turn(*rt, *board, place, bell, gate, *keeps, *rings || heard);
         *serving = *keeps;
     }
 
@@ -267,11 +303,12 @@ where
             keeps,
             serving,
             rings,
+            gate,
         } = self;
-        take_turn(*rt, *board, place, *serving);
+        begin_turn(*rt, *board, place, *bell, gate, *serving);
         done_served(*board, place);
         let heard = has_answered(*board, place, true);
-        *rings = end_turn(*rt, *board, place, bell, *keeps, *rings || heard);
+        *rings = end_turn(*rt, *board, place, bell, gate, *keeps, *rings || heard);
         *serving = *keeps;
     }
 
@@ -284,10 +321,11 @@ where
             keeps,
             serving,
             rings,
+            gate,
         } = self;
-        take_turn(*rt, *board, place, *serving);
+        begin_turn(*rt, *board, place, *bell, gate, *serving);
         let kept = fetch_served(*board, place, unit);
-        *rings = end_turn(*rt, *board, place, bell, *keeps, *rings);
+        *rings = end_turn(*rt, *board, place, bell, gate, *keeps, *rings);
         *serving = *keeps;
         kept
     }
