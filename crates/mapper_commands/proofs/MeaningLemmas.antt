@@ -24,7 +24,7 @@ use Rattle.mapper_commands.specs.Reports.{Refuses, ReportsSo, check_report}
 use Rattle.mapper_commands.specs.Running.{Outside, DoesTask, IsReport, Pipes, served, refused, no_memory}
 use Rattle.connection_core.specs.Serving.{ServesAlone}
 use Rattle.mapper_commands.specs.TraceFiles.{FindsTrace}
-use Rattle.mapper_commands.proofs.Complete.{never_full}
+use Rattle.mapper_server.proofs.Unhindered.{never_full}
 use Rattle.mapper_commands.proofs.FileLemmas.{told_before}
 use Rattle.mapper_commands.proofs.PrintLemmas.{six_speaks}
 use Rattle.mapper_commands.proofs.Statuses.{differ, in_report, of_file, report_never, status_by}

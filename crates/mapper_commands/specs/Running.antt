@@ -1,13 +1,11 @@
 -- What a run of the program comes to.
-use Rattle.std.specs.Prelude.{◌≡◌, ◌≢◌, ℕ, ◌+◌, ◌≤◌, ◌⊎◌, List, All, map, length, Option, None, IfSome, IsSomeAnd, String, string_bytes, Result, Ok, Err}
+use Rattle.std.specs.Prelude.{◌≡◌, ◌≢◌, ℕ, ◌⊎◌, List, All, map, Option, None, IfSome, IsSomeAnd, String, string_bytes, Result, Ok, Err}
 use Rattle.std.specs.declared.alloc.Global.{Global}
 use Rattle.mm_outside.specs.Causes.{Rose}
 use Rattle.mm_outside.specs.Files.{Lookup}
 use Rattle.mm_outside.specs.Octets.{Octets}
 use Rattle.mm_outside.specs.Told.{Told}
-use Rattle.cody_batches.specs.Blocks.{blocks, held, PassesLimits}
 use Rattle.unit_registry.specs.Projects.{ProjectView}
-use Rattle.connection_core.specs.Asking.{acts}
 use Rattle.connection_core.specs.declared.conn_end.ConnEnd.{ConnEnd}
 use Rattle.connection_core.specs.Ends.{HasCauses}
 use Rattle.trace_text.specs.declared.trace.Trace.{Trace}
@@ -19,6 +17,7 @@ use Rattle.mapper_commands.specs.ProjectFiles.{DeclaresProject, FindsProject, Is
 use Rattle.mapper_commands.specs.Reports.{ReportsSo, check_report}
 use Rattle.mapper_commands.specs.Replays.{replay_report}
 use Rattle.connection_core.specs.Serving.{ServesAlone}
+use Rattle.mapper_server.specs.Complete.{FitsAlone}
 use Rattle.mapper_commands.specs.TraceFiles.{HoldsTrace}
 
 -- what files and a link tell before and after a run, and how often their reads and writes have failed
@@ -125,21 +124,14 @@ module _ {L : Type 0} (outside : Outside L) where
     nothing : AsksNothing words → ended ≡ BadWords → StaysAside → Does words ended
     asked : (task : Task) → AsksFor (map string_bytes words) task → DoesTask task ended → Does words ended
 
--- The input that is still to come passes no limit and ends behind a whole block, and a history of so many entries has
--- room for all that it enters, beside the three entries that any connection alone has.
-pub record IsWhole (project : ProjectView) (entries : ℕ) (octets : Octets) : Type 0 where
-  pub within : PassesLimits octets.to_come → ⊥
-  pub none_held : held octets.to_come ≡ 0
-  pub fits : length (acts project (blocks octets.to_come)) + 3 ≤ entries
-
--- all that a run is to serve is there: the file declares a project, and the input of the link is whole
+-- all that a run is to serve is there: the file declares a project, and the input of the link is whole and fits
 pub record IsAllThere (words : List (String Global)) (files : Option Lookup) (link : Option Octets) : Type 0 where
   pub name : List ℕ
   pub entries : ℕ
   pub asks : AsksFor (map string_bytes words) (Pipe name entries)
   pub project : ProjectView
   pub file : IsSomeAnd files (λ content. DeclaresProject (content name) project)
-  pub input : IsSomeAnd link (IsWhole project entries)
+  pub input : IsSomeAnd link (FitsAlone project entries)
 
 -- the files that a task reads, as far as the files tell which these are
 abbrev pub IsReadBy : Option Lookup → Task → List ℕ → Type 0

@@ -1,5 +1,5 @@
 -- What all workers came to is what serving means, once the registry is closed and its history printed.
-use Rattle.std.proofs.Common.{◌≡◌, ◌⊎◌, inl, inr, ℕ, ◌+◌, ◌-◌, ◌^◌, ◌<◌, List, [], ◌∷◌, ◌++◌, length, Option, Some, None, Ok, Err, refl, sym, ap, subst, ◌∙◌, arith}
+use Rattle.std.proofs.Common.{◌≡◌, inl, inr, ℕ, ◌+◌, ◌-◌, ◌^◌, ◌<◌, List, [], ◌∷◌, ◌++◌, length, Option, Some, None, Ok, Err, refl, sym, ap, subst, ◌∙◌, arith}
 use Rattle.std.specs.List.{cons_option}
 use Rattle.std.proofs.lemmas.List.Elements.{filter_map-append}
 use Rattle.mm_outside.specs.Causes.{HasCause, Rose}
@@ -30,6 +30,7 @@ use Rattle.mapper_server.proofs.Working.{new_back_is}
 use Rattle.mapper_server.proofs.Halls.{Told-each, each_map}
 use Rattle.mapper_server.proofs.Leasts.{least_both, less_up_first, less_up_second}
 use Rattle.mapper_server.proofs.Numbers.{all_numbers}
+use Rattle.mapper_server.proofs.Returning.{in_either}
 
 -- ---- the connections of links that were served are below those that were opened
 
@@ -70,11 +71,6 @@ module _ {L : Type 0} (octets : L → Option Octets) (read_faults write_faults :
 
     pub works_as : (old new : Links L) → Works octets read_faults write_faults history Full old new → Works octets read_faults write_faults history Other old new
     works_as old new h = record { given = h.given; backs = h.backs; taken = h.taken; back = h.back; returned = all_as h.given h.backs h.returned }
-
-in_either : (c : ℕ) (xs ys : List ℕ) → In c (xs ++ ys) → In c xs ⊎ In c ys
-in_either c [] ys h = inr h
-in_either c (x ∷ xs) ys (inl same) = inl (inl same)
-in_either c (x ∷ xs) ys (inr rest) = elim (in_either c xs ys rest) [ inl left ↦ inl (inr left) | inr right ↦ inr right ]
 
 module _ {L : Type 0} (octets : L → Option Octets) (read_faults write_faults : L → ℕ) (history : LedgerView) (connections : List ℕ) where
   all_below : (olds news : List (Links L)) (c : ℕ) → EachPair (ServesAmong octets read_faults write_faults history connections) olds news → In c (conns_of (new_backs olds news)) → c < opened_in history

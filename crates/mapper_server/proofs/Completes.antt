@@ -81,7 +81,7 @@ restated f same less (lacked missing m past) = lacked missing (omega arith) past
 course_length : (asked : List Acts) (last : Acts) → length (whole_course asked last) ≡ length asked + 2
 course_length asked last = omega (arith, length-append asked (last ∷ []))
 
-some_missing : (missing : List Acts) → missing ≢ [] → 0 < length missing
+pub some_missing : (missing : List Acts) → missing ≢ [] → 0 < length missing
 some_missing [] proper = absurd (proper refl)
 some_missing (one ∷ rest) proper = omega arith
 

@@ -23,3 +23,4 @@ pub mod Halls
 pub mod Gathering
 pub mod Numbers
 pub mod Closing
+pub mod Unhindered

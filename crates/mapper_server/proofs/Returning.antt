@@ -93,7 +93,7 @@ count_more p q c was now (x ∷ xs) (inr there) kept =
     let second : count_by q (x ∷ xs) ≡ cond (q x) 1 0 + count_by q xs = sum_by-cons (λ (y : ℕ). cond (q y) 1 0) x xs in
     omega (arith, one, rest, first, second)
 
-in_either : (e : Entry) → (first second : List Entry) → In e (first ++ second) → In e first ⊎ In e second
+pub in_either : {A : Type 0} (e : A) → (first second : List A) → In e (first ++ second) → In e first ⊎ In e second
 in_either e [] second there = inr there
 in_either e (x ∷ first) second (inl same) = inl (inl same)
 in_either e (x ∷ first) second (inr there) = elim (in_either e first second there) [

@@ -1,4 +1,4 @@
--- When nothing hinders serving the links of all halls, so that the status is 0.
+-- When nothing hinders serving one link alone, so that it closes, or the links of all halls, so that the status is 0.
 use Rattle.std.specs.Prelude.{◌≡◌, ℕ, ◌+◌, ◌≤◌, ◌⊎◌, List, length, All, Option, Some, IsSomeAnd, sum_by}
 use Rattle.std.specs.List.{flat_map}
 use Rattle.std.specs.Option.{option_map_or}
@@ -20,6 +20,17 @@ pub record IsWhole (octets : Octets) : Type 0 where
 -- how many entries a connection asks for that sends these octets: it opens, enters what its blocks ask, and goes
 abbrev pub entries_asked : ProjectView → List ℕ → ℕ
 entries_asked project octets = length (acts project (blocks octets)) + 2
+
+-- the octets are whole, and a history with one worker that has at most so many entries has room for what they ask for
+pub record FitsAlone (project : ProjectView) (limit : ℕ) (octets : Octets) : Type 0 where
+  pub whole : IsWhole octets
+  pub fits : 1 + entries_asked project octets.to_come ≤ limit
+
+-- Nothing hinders serving a link alone: it told its octets, these fit, and no read and no write of it failed.
+pub record NothingHindersOne (project : ProjectView) (limit : ℕ) (told : Option Octets) (reads_before reads_now writes_before writes_now : ℕ) : Type 0 where
+  pub fits : IsSomeAnd told (FitsAlone project limit)
+  pub reads_stood : Rose reads_before reads_now → ⊥
+  pub writes_stood : Rose writes_before writes_now → ⊥
 
 -- how many entries these links ask for by the octets that are still to come
 abbrev pub asked_by : {L : Type 0} → (L → Option Octets) → ProjectView → List L → ℕ

@@ -21,6 +21,8 @@ use Rattle.connection_core.specs.Serving.{Moves}
 use Rattle.connection_core.specs.Sessions.{SessionState, StandsAfter, HoldsForBlock, ended, lines_of, octets_taken}
 use Rattle.mapper_server.specs.declared.step.Step.{Step}
 use Rattle.mapper_server.specs.declared.step.Step.TheVariants as step
+use Rattle.mapper_server.specs.declared.step.Stop.{Stop}
+use Rattle.mapper_server.specs.declared.step.Stop.TheVariants as stop
 
 -- ---- the octets that were read and not yet taken
 
@@ -121,6 +123,11 @@ pub record EndsSo {Held : Type 0} (project : ProjectView) (conn : ℕ) (how : Co
   pub written : List ℕ
   pub moves : Moves read written before now
   pub closes : Closes project desk.seen.workers desk.seen.limit conn how desk.seen.entries (record { read = read; to_come = now.to_come; written = written })
+
+-- the step at which serving stops
+abbrev pub as_step : Stop → Step
+as_step (stop.Waits place) = step.Waits place
+as_step (stop.Ended how) = step.Ended how
 
 -- what is so after a step
 abbrev pub After : {Item Held : Type 0} → Step → ProjectView → SessionState Item → DeskState Held → List ℕ → Octets → Octets → Type 0

@@ -8,7 +8,7 @@ ghost use Rattle.connection_core.specs.Ends.{HasCauses, last_of};
 ghost use Rattle.mapper_server.specs.Serving.{FillsUp, GoesLast, HasOpened, IsAnew, ServesIn, TellsWasFull};
 ghost use Rattle.mapper_server.specs.Steps.{AtDesk, Continues, EndsSo, TellsFull};
 
-use crate::step::{Piece, Step, advance};
+use crate::step::{Piece, Stop, serve_on};
 use connection_core::{ConnEnd, Session};
 use mm_outside::Link;
 use registry_core::{Desk, Leaving};
@@ -95,13 +95,12 @@ where
     let mut piece = Piece { at: 0, end: 0 };
     let mut count = bell.count(rt);
     for _ in rt.forever() {
-        match advance(project, session, desk, link, room, &mut piece) {
-            Step::GoesOn => {}
-            Step::Waits { place: _ } => {
+        match serve_on(project, session, desk, link, room, &mut piece) {
+            Stop::Waits { place: _ } => {
                 bell.wait_past(rt, count);
                 count = bell.count(rt);
             }
-            Step::Ended(how) => return how,
+            Stop::Ended(how) => return how,
         }
     }
     unreachable!()

@@ -4,14 +4,16 @@ ghost use Rattle.std.specs.Prelude.{◌≡◌, ◌<◌, ◌≤◌, [], length, I
 ghost use Rattle.mm_outside.specs.Told.{Told};
 ghost use Rattle.registry_core.specs.Alone.{told_alone};
 ghost use Rattle.registry_core.specs.Desks.{IsSound};
+ghost use Rattle.connection_core.specs.declared.conn_end.ConnEnd.TheVariants as ends;
 ghost use Rattle.connection_core.specs.Ends.{HasCauses};
 ghost use Rattle.connection_core.specs.Serving.{ServesAlone};
+ghost use Rattle.mapper_server.specs.Complete.{NothingHindersOne};
 ghost use Rattle.mapper_server.specs.Limits.{fewest_entries, most_entries};
 ghost use Rattle.mapper_server.specs.Serving.{FillsUp, IsAnew};
 ghost use Rattle.mapper_server.specs.Steps.{Continues, EndsSo, HasOpenedFirst, TellsFull};
 
 use crate::connection::{READ_ROOM, leaving};
-use crate::step::{Piece, Step, advance};
+use crate::step::{Piece, Stop, serve_on};
 use connection_core::{ConnEnd, Session};
 use mm_outside::{Link, Memory};
 use registry_core::{Book, Desk, NoShelf, Shelf, SoloDesk};
@@ -35,6 +37,7 @@ pub fn pipe<L: Link>(
     ensures served { IfOk result (λ how. Told (ServesAlone project.now entries how) (L.octets link.old) (L.octets link.new)) }
     ensures causes { IfOk result (λ how. HasCauses (L.read_faults link.old) (L.read_faults link.new) (L.write_faults link.old) (L.write_faults link.new) how) }
     ensures full { IfOk result (λ how. FillsUp how entries) }
+    ensures complete { IfOk result (λ how. NothingHindersOne project.now entries (L.octets link.old) (L.read_faults link.old) (L.read_faults link.new) (L.write_faults link.old) (L.write_faults link.new) → how ≡ ends.Closed) }
     ensures memory { OnErr result (link.new ≡ link.old) }
 {
     let mut session = Session::new(alloc)?;
@@ -92,11 +95,8 @@ where
     ensures continues { Continues 0 (told_alone S.kept S.held desk.old) (told_alone S.kept S.held desk.new) }
 {
     let mut piece = Piece { at: 0, end: 0 };
-    loop {
-        match advance(project, session, desk, link, room, &mut piece) {
-            Step::GoesOn => {}
-            Step::Waits { place: _ } => unreachable!(),
-            Step::Ended(how) => return how,
-        }
+    match serve_on(project, session, desk, link, room, &mut piece) {
+        Stop::Waits { place: _ } => unreachable!(),
+        Stop::Ended(how) => how,
     }
 }

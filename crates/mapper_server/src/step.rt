@@ -1,4 +1,4 @@
-//! One step of serving a connection.
+//! Serving a connection, step by step, until it waits or has ended.
 
 ghost use Rattle.std.specs.Prelude.{◌≡◌, ◌≢◌, ◌<◌, ◌≤◌, ◌+◌, List, ℕ, length, None, Some, IfSome, IsFalse};
 ghost use Rattle.mm_outside.specs.Causes.{Rose};
@@ -10,7 +10,8 @@ ghost use Rattle.connection_core.specs.declared.conn_end.ConnEnd.TheVariants as 
 ghost use Rattle.connection_core.specs.Answers.{IsFirstMissing};
 ghost use Rattle.connection_core.specs.Sessions.{IsReading, IsWaiting, octets_taken, ended};
 ghost use Rattle.mapper_server.specs.declared.step.Step.TheVariants as steps;
-ghost use Rattle.mapper_server.specs.Steps.{rest_of, IsGoing, AtDesk, Continues, Steps, TurnIn, UnlessEnded, WhereEnded, StepCauses, Fills, EndsInput, TellsFull};
+ghost use Rattle.mapper_server.specs.declared.step.Stop.TheVariants as stops;
+ghost use Rattle.mapper_server.specs.Steps.{as_step, rest_of, IsGoing, AtDesk, Continues, Steps, TurnIn, UnlessEnded, WhereEnded, StepCauses, Fills, EndsInput, TellsFull};
 
 use connection_core::{ConnEnd, Session, Took, Turn};
 use mm_outside::{Failed, Link};
@@ -22,6 +23,15 @@ use unit_registry::Project;
 pub enum Step {
     /// What waited was answered, and octets were taken: it goes on.
     GoesOn,
+    /// The request at this place of the history has no reply yet, and its block waits for it.
+    Waits { place: u32 },
+    /// The connection has ended.
+    Ended(ConnEnd),
+}
+
+/// Where serving a connection stops.
+#[derive(Clone, Copy, Debug, PartialEq, Eq)]
+pub enum Stop {
     /// The request at this place of the history has no reply yet, and its block waits for it.
     Waits { place: u32 },
     /// The connection has ended.
@@ -232,5 +242,46 @@ where
         Step::GoesOn => take_more(project, session, desk, link, room, piece),
         Step::Waits { place } => Step::Waits { place },
         Step::Ended(how) => Step::Ended(how),
+    }
+}
+
+/// Serves a connection step by step until a block waits for a reply or the connection has ended. Each connection is served
+/// by this, whether alone or beside others.
+pub(crate) fn serve_on<D: Desk, L: Link>(
+    project: &Project,
+    session: &mut Session<D::Item>,
+    desk: &mut D,
+    link: &mut L,
+    room: &mut [u8],
+    piece: &mut Piece,
+) -> Stop
+where
+    D::Item: Drop,
+    requires at_desk { AtDesk project.now session.old.conn (D.tells desk.old) }
+    requires going { IsGoing project.now (D.tells desk.old).seen.entries session.old }
+    requires turn { TurnIn session.old.reader.stage session.old (D.holds desk.old) }
+    requires room { 0 < length room.old }
+    requires order { piece.old.at ≤ piece.old.end }
+    requires within { piece.old.end ≤ length room.old }
+    ensures steps { Told (Steps project.now (as_step result) session.old session.new (D.tells desk.old) (D.tells desk.new) (rest_of piece.old.at piece.old.end room.old) (rest_of piece.new.at piece.new.end room.new)) (L.octets link.old) (L.octets link.new) }
+    ensures at_desk { AtDesk project.now session.old.conn (D.tells desk.new) }
+    ensures continues { Continues session.old.conn (D.tells desk.old) (D.tells desk.new) }
+    ensures going { UnlessEnded (as_step result) (IsGoing project.now (D.tells desk.new).seen.entries session.new) }
+    ensures waits { (place : ℕ) → result ≡ stops.Waits place → IsWaiting session.new × IsFirstMissing (reply_at (D.tells desk.new).seen) session.new.places place }
+    ensures full { WhereEnded (as_step result) (TellsFull (D.tells desk.new).seen) }
+    ensures causes { StepCauses (as_step result) (L.read_faults link.old) (L.read_faults link.new) (L.write_faults link.old) (L.write_faults link.new) }
+    ensures turn { TurnIn session.new.reader.stage session.new (D.holds desk.new) }
+    ensures released { IsFalse (D.holds desk.new) }
+    ensures order { UnlessEnded (as_step result) (piece.new.at ≤ piece.new.end) }
+    ensures within { piece.new.end ≤ length room.new }
+    ensures room { length room.new ≡ length room.old }
+    ensures conn { session.new.conn ≡ session.old.conn }
+{
+    loop {
+        match advance(project, session, desk, link, room, piece) {
+            Step::GoesOn => {}
+            Step::Waits { place } => return Stop::Waits { place },
+            Step::Ended(how) => return Stop::Ended(how),
+        }
     }
 }

@@ -11,7 +11,7 @@ use Rattle.mapper_server.proofs.connection.serve_in.Goals as goal
 
 pub returns-in-Ended-clause-ends : goal.returns-in-Ended-clause-ends
 returns-in-Ended-clause-ends g c =
-    subst (λ conn. Told (EndsSo c.args.project.now conn c.in-Ended.how (g.D.Desk.tells c.advance.new.desk)) (g.L.Link.octets c.args.link.now) (g.L.Link.octets c.advance.new.link)) (c.in-Ended.ensures.conn ∙ c.loop.invariant.conn)
+    subst (λ conn. Told (EndsSo c.args.project.now conn c.in-Ended.how (g.D.Desk.tells c.serve_on.new.desk)) (g.L.Link.octets c.args.link.now) (g.L.Link.octets c.serve_on.new.link)) (c.in-Ended.ensures.conn ∙ c.loop.invariant.conn)
     (Told-then (λ a b d serving turn. turn.step a serving) c.loop.invariant.serving c.in-Ended.ensures.steps)
 
 pub returns-in-Ended-clause-causes : goal.returns-in-Ended-clause-causes
@@ -19,8 +19,8 @@ returns-in-Ended-clause-causes g c = causes_then (steps.Ended c.in-Ended.how) _ 
 
 pub returns-in-Ended-clause-continues : goal.returns-in-Ended-clause-continues
 returns-in-Ended-clause-continues g c =
-    continues_further c.args.session.now.conn (g.D.Desk.tells c.args.desk.now) (g.D.Desk.tells c.loop.desk) (g.D.Desk.tells c.advance.new.desk) c.loop.invariant.continues
-    (subst (λ conn. Continues conn (g.D.Desk.tells c.loop.desk) (g.D.Desk.tells c.advance.new.desk)) c.loop.invariant.conn c.in-Ended.ensures.continues)
+    continues_further c.args.session.now.conn (g.D.Desk.tells c.args.desk.now) (g.D.Desk.tells c.loop.desk) (g.D.Desk.tells c.serve_on.new.desk) c.loop.invariant.continues
+    (subst (λ conn. Continues conn (g.D.Desk.tells c.loop.desk) (g.D.Desk.tells c.serve_on.new.desk)) c.loop.invariant.conn c.in-Ended.ensures.continues)
 
 pub loop-init : goal.loop-init
 loop-init g c = record {
@@ -37,35 +37,16 @@ loop-init g c = record {
   write_faults = refl;
 }
 
-pub loop-preserved-in-GoesOn : goal.loop-preserved-in-GoesOn
-loop-preserved-in-GoesOn g c =
-    let inv = c.loop.invariant in
-    let turn = c.in-GoesOn.ensures in
-    record {
-      at_desk = subst (λ conn. AtDesk c.args.project.now conn (g.D.Desk.tells c.advance.new.desk)) (sym turn.conn) turn.at_desk;
-      going = turn.going;
-      turn = turn.turn;
-      continues = continues_further c.args.session.now.conn (g.D.Desk.tells c.args.desk.now) (g.D.Desk.tells c.loop.desk) (g.D.Desk.tells c.advance.new.desk) inv.continues
-          (subst (λ conn. Continues conn (g.D.Desk.tells c.loop.desk) (g.D.Desk.tells c.advance.new.desk)) inv.conn turn.continues);
-      conn = turn.conn ∙ inv.conn;
-      serving = Told-then (λ a b d serving step. step.step a serving) inv.serving turn.steps;
-      room = omega (arith, turn.room, inv.room);
-      order = turn.order;
-      within = turn.within;
-      read_faults = turn.causes.0 ∙ inv.read_faults;
-      write_faults = turn.causes.1 ∙ inv.write_faults;
-    }
-
 pub loop-preserved : goal.loop-preserved
 loop-preserved g c =
     let inv = c.loop.invariant in
     let turn = c.in-Waits.ensures in
     record {
-      at_desk = subst (λ conn. AtDesk c.args.project.now conn (g.D.Desk.tells c.advance.new.desk)) (sym turn.conn) turn.at_desk;
+      at_desk = subst (λ conn. AtDesk c.args.project.now conn (g.D.Desk.tells c.serve_on.new.desk)) (sym turn.conn) turn.at_desk;
       going = turn.going;
       turn = turn.turn;
-      continues = continues_further c.args.session.now.conn (g.D.Desk.tells c.args.desk.now) (g.D.Desk.tells c.loop.desk) (g.D.Desk.tells c.advance.new.desk) inv.continues
-          (subst (λ conn. Continues conn (g.D.Desk.tells c.loop.desk) (g.D.Desk.tells c.advance.new.desk)) inv.conn turn.continues);
+      continues = continues_further c.args.session.now.conn (g.D.Desk.tells c.args.desk.now) (g.D.Desk.tells c.loop.desk) (g.D.Desk.tells c.serve_on.new.desk) inv.continues
+          (subst (λ conn. Continues conn (g.D.Desk.tells c.loop.desk) (g.D.Desk.tells c.serve_on.new.desk)) inv.conn turn.continues);
       conn = turn.conn ∙ inv.conn;
       serving = Told-then (λ a b d serving step. step.step a serving) inv.serving turn.steps;
       room = omega (arith, turn.room, inv.room);

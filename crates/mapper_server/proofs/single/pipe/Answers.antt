@@ -3,6 +3,7 @@ use Rattle.std.specs.Option.{is_some}
 use Rattle.mm_outside.specs.Told.{Told}
 use Rattle.connection_core.specs.Serving.{ServesAlone}
 use Rattle.mapper_server.specs.Serving.{FillsUp}
+use Rattle.mapper_server.proofs.Unhindered.{unhindered_closes}
 use Rattle.mapper_server.proofs.single.pipe.Goals as goal
 
 pub new-requires-3-clause-built : goal.new-requires-3-clause-built
@@ -24,3 +25,7 @@ returns-clause-served g c =
 
 pub returns-clause-full : goal.returns-clause-full
 returns-clause-full g c = subst (λ limit. FillsUp c.serve_alone.result limit) (ap (λ book. book.ledger.limit) (c.new-desk.ensures.book ∙ c.in_ok-book.ensures)) c.serve_alone.ensures.full
+
+pub returns-clause-complete : goal.returns-clause-complete
+returns-clause-complete g c = λ none.
+    unhindered_closes c.args.project.now c.args.entries c.serve_alone.result (g.L.Link.octets c.args.link.now) (g.L.Link.octets c.serve_alone.new.link) _ _ _ _ none c.serve_alone.ensures.causes (returns-clause-served g c)
